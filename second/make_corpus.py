@@ -215,7 +215,7 @@ class Maker:
     def to_end(self, running):
         """Steps until no more than so many operations run."""
         taken = 0
-        while len(self.bench.running) > running:
+        while len(self.bench.running) > max(0, running):
             self.bench.step()
             taken += 1
         if taken:
@@ -244,7 +244,7 @@ def storm(seed):
             else:
                 make.event("E", level, queue, chance.among(*free))
         elif chance.often(0.15):
-            make.to_end(max(0, len(make.bench.running) - 1 - chance.below(2)))
+            make.to_end(len(make.bench.running) - 1 - chance.below(2))
         else:
             make.steps(1 + chance.below(stride))
     if chance.often(0.15):
@@ -386,6 +386,7 @@ def big():
     yield "big-65536-no-final-lf", whole[:-1] + b"0"
     yield "big-65536-one-line", b"3" * LIMIT
     yield "big-65537-one-line", b"3" * (LIMIT + 1)
+    yield "big-16380-events-the-last-wrong", b"3\n1\n1\n2\n16380\n" + b"S 1\n" * 16379 + b"S 0\n"
 
 
 # ---------------------------------------------------------------------------------------------------

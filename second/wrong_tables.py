@@ -2,7 +2,7 @@
 """The step table as a small program, and what becomes of demand 3 when some of its lines are wrong.
 
     second/wrong_tables.py                         the right table, then each wrong one: the shortest schedule that breaks it
-    second/wrong_tables.py LABEL [L Q N BEGINS]   one of them, in all histories of these sizes with so many begins
+    second/wrong_tables.py LABEL [L Q N BEGINS]    one of them, in all histories of these sizes with so many begins
     second/wrong_tables.py --cross [COUNT]         hold second/bench.py to this table on COUNT random schedules
 
 The table stands here line by line and owes nothing to second/bench.py, which follows the paper.
@@ -23,8 +23,7 @@ class Refused(Exception):
 
 
 class Frame:
-    WORDS = ("op", "point", "q", "n", "k", "p", "c", "a", "r", "m", "due")
-    __slots__ = (*WORDS, "steps")
+    __slots__ = ("op", "point", "q", "n", "k", "p", "c", "a", "r", "m", "due", "steps")
 
     def __init__(self, op, point, q, n, due):
         self.op, self.point, self.q, self.n, self.due = op, point, q, n, due
@@ -626,7 +625,7 @@ def cross(count):
 
 # ---------------------------------------------------------------------------------------------------
 
-SPACES = [(2, 1, 4, 99), (3, 1, 4, 6)]  # L, Q, N and the number of begins; all histories of the first end within 99
+SPACES = [(2, 1, 4, 99), (3, 1, 4, 6)]  # L, Q, N and the most begins; 99 are more than it takes to meet every table
 
 
 def report(label, what, changed, spaces, between):
