@@ -2,3 +2,4 @@ pub mod Text
 pub mod Answer
 pub mod Reading
 pub mod Laws
+pub mod Unique
