@@ -10,6 +10,7 @@ use lib.ListN.{length, drop, set, getD, length-append, drop-of-length-le}
 use lib.Seq.{sets, set-comm, drop-cons}
 use lib.Dec.{ltb, leb, eqb}
 use borrow.Author.Tests.{ltb-true, leb-true}
+use Rattle.heads.specs.Laws.{sets-append}
 use Rattle.decimals.specs.declared.FieldRead.{FieldRead}
 use Rattle.decimals.specs.declared.FieldRead.the-variants.{Number, Wrong}
 use Rattle.decimals.specs.Decimals.{widthOf, lastDigits, digitsOf, fieldOf, isDigit, withDigit, goesOn, restIn, restOf, fieldIn, fieldAt}
@@ -22,11 +23,6 @@ pub and-second : (a b : Bool) → (a && b) ≡ true → b ≡ true
 and-second true b h = h
 and-second false true h = refl
 and-second false false h = h
-
--- a run of stores, and then another
-pub sets-append : (r : List ℕ) (p : ℕ) (xs ys : List ℕ) → sets r p (xs ++ ys) ≡ sets (sets r p xs) (p + length xs) ys
-sets-append r p [] ys = rw add-zero
-sets-append r p (x ∷ xs) ys = rw (add-suc, ← suc-add) (sets-append (set r p x) (suc p) xs ys)
 
 -- a store past a run of stores may come first
 pub sets-set : (r : List ℕ) (p i a : ℕ) (xs : List ℕ) → p + length xs ≤ i → set (sets r p xs) i a ≡ sets (set r i a) p xs
@@ -114,7 +110,13 @@ pub field-none : (end : ℕ) (text : List ℕ) (at : ℕ) → length text ≤ at
 unfolding fieldAt fieldIn
 field-none end text at h = rw (drop-of-length-le text {i = at} h)
 
--- a field is its digits, and then the byte that ends it
-pub field-sets : (r : List ℕ) (p n end : ℕ) → sets r p (fieldOf n end) ≡ set (sets r p (digitsOf n)) (p + widthOf n) end
-unfolding fieldOf
-field-sets r p n end = sets-append r p (digitsOf n) (end ∷ []) ∙ rw length-digits
+pub width-top : (n : ℕ) → widthOf n ≤ 5
+unfolding widthOf
+width-top n = by (ltb n 10) (ltb n 100) (ltb n 1000) (ltb n 10000)
+  where
+    by : (a b c d : Bool) → cond a 1 (cond b 2 (cond c 3 (cond d 4 5))) ≤ 5
+    by true b c d = omega arith
+    by false true c d = omega arith
+    by false false true d = omega arith
+    by false false false true = omega arith
+    by false false false false = omega arith

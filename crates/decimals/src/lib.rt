@@ -2,7 +2,7 @@
 ghost use mathlib.Core.Path.{_≡_};
 ghost use Prim.Native.Nat.{_+_, _-_, _*_, _%_, _≤_};
 ghost use lib.ListN.{length};
-ghost use lib.Seq.{sets};
+ghost use Rattle.heads.specs.Put.{Put};
 ghost use Rattle.decimals.specs.Decimals.{
   widthOf,
   digitsOf,
@@ -109,8 +109,8 @@ fn digit(n: u16) -> u8
 
 // Writes n's digits from place on, the last one first, and answers the place after them.
 pub fn write_digits(room: &mut [u8], place: usize, n: u16) -> usize
-    requires { ⌜ place + widthOf n ≤ length (now room) ⌝ }
-    ensures { λ r. ⌜ (r ≡ place + widthOf n) × (now (room .exit) ≡ sets (now (room .entry)) place (digitsOf n)) ⌝ }
+    requires { ⌜ place + length (digitsOf n) ≤ length (now room) ⌝ }
+    ensures { λ r. ⌜ Put r (now (room .exit)) (now (room .entry)) place (digitsOf n) ⌝ }
 {
     let w = width(n);
     let mut left = w;
@@ -125,7 +125,7 @@ pub fn write_digits(room: &mut [u8], place: usize, n: u16) -> usize
 
 pub fn write_field(room: &mut [u8], place: usize, n: u16, end: u8) -> usize
     requires { ⌜ place + length (fieldOf n end) ≤ length (now room) ⌝ }
-    ensures { λ r. ⌜ (r ≡ place + length (fieldOf n end)) × (now (room .exit) ≡ sets (now (room .entry)) place (fieldOf n end)) ⌝ }
+    ensures { λ r. ⌜ Put r (now (room .exit)) (now (room .entry)) place (fieldOf n end) ⌝ }
 {
     let at = write_digits(room, place, n);
     room[at] = end;

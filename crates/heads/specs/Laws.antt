@@ -4,12 +4,14 @@ use mathlib.Core.Path.{_≡_, refl, sym, ap, _∙_}
 use mathlib.Core.List.{List, [], _∷_, _++_}
 use mathlib.Core.Bool.{Bool, true, false, _&&_}
 use native.Mathlib.Omega.{arith}
+use native.Mathlib.Nat.{add-suc, add-zero, suc-add}
 use native.Mathlib.Numerals.{add-one}
-use lib.ListN.{length, drop, getD, set, drop-of-length-le}
+use lib.ListN.{length, length-append, drop, getD, set, drop-of-length-le}
 use lib.Seq.{sets, drop-cons, drop-drop}
 use lib.Dec.{eqb}
 use borrow.Author.Tests.{eq-eqb, ne-eqb, eqb-true}
 use Rattle.heads.specs.Heads.{begins, standsAt}
+use Rattle.heads.specs.Put.{Put}
 
 -- one byte of a word more
 pub begins-more : (h s : List ℕ) (i at : ℕ) → i < length h → at < length s
@@ -59,3 +61,16 @@ stands-is h text at e = begins-is h (drop at text) e ∙ rw drop-drop
 pub stands-own : (h text s : List ℕ) (at : ℕ) → drop at text ≡ h ++ s → standsAt h text at ≡ true
 unfolding standsAt
 stands-own h text s at e = rw e (begins-own h s)
+
+-- a run of stores, and then another
+pub sets-append : (r : List ℕ) (p : ℕ) (xs ys : List ℕ) → sets r p (xs ++ ys) ≡ sets (sets r p xs) (p + length xs) ys
+sets-append r p [] ys = rw add-zero
+sets-append r p (x ∷ xs) ys = rw (add-suc, ← suc-add) (sets-append (set r p x) (suc p) xs ys)
+
+-- a part that is written after a part: both of them are
+pub put-after : {p q : ℕ} {r s t : List ℕ} {place : ℕ} {xs ys : List ℕ} → Put p s r place xs → Put q t s p ys → Put q t r place (xs ++ ys)
+put-after {r} {place} {xs} {ys} a b =
+    record {
+      next = omega (arith, a .next, b .next, length-append xs ys);
+      is = b .is ∙ rw (a .is, a .next) (sym (sets-append r place xs ys));
+    }

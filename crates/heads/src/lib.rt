@@ -2,8 +2,8 @@
 ghost use mathlib.Core.Path.{_≡_};
 ghost use Prim.Native.Nat.{_+_, _≤_};
 ghost use lib.ListN.{length};
-ghost use lib.Seq.{sets};
 ghost use Rattle.heads.specs.Heads.{standsAt};
+ghost use Rattle.heads.specs.Put.{Put};
 
 pub fn stands_at(text: &[u8], place: usize, head: &[u8]) -> bool
     ensures { λ r. ⌜ r ≡ standsAt (now (head .entry)) (now (text .entry)) place ⌝ }
@@ -28,7 +28,7 @@ pub fn stands_at(text: &[u8], place: usize, head: &[u8]) -> bool
 // Writes head from place on, and answers the place after it.
 pub fn write_head(room: &mut [u8], place: usize, head: &[u8]) -> usize
     requires { ⌜ place + length (now head) ≤ length (now room) ⌝ }
-    ensures { λ r. ⌜ (r ≡ place + length (now (head .entry))) × (now (room .exit) ≡ sets (now (room .entry)) place (now (head .entry))) ⌝ }
+    ensures { λ r. ⌜ Put r (now (room .exit)) (now (room .entry)) place (now (head .entry)) ⌝ }
 {
     let mut i = 0;
     while i < head.len() {

@@ -22,7 +22,7 @@ loop-again : tie.Need-loop-again Inv-loop μ-loop
 loop-again c = (search needs, simp length-set ((c .before .before .loop .inv) .1), sym (sets-more (c .before .before .loop .room) ((c .before .before .before .args .head) .now) (c .before .before .before .args .place) (c .before .before .loop .i) (c .before .loop-test .taken)) ∙ (c .before .before .loop .inv) .2)
 
 returns : tie.Need-returns Inv-loop μ-loop
-returns c = (omega arith, sym (sets-all (c .before .loop .room) ((c .before .before .args .head) .now) ((c .before .before .args .place) + (c .before .loop .i)) (c .before .loop .i) (c .loop-test .left)) ∙ (c .before .loop .inv) .2)
+returns c = record { next = omega arith; is = sym (sets-all (c .before .loop .room) ((c .before .before .args .head) .now) ((c .before .before .args .place) + (c .before .loop .i)) (c .before .loop .i) (c .loop-test .left)) ∙ (c .before .loop .inv) .2 }
 
 pub write-head-spec : {M : Type 1} → statement M
 write-head-spec =
