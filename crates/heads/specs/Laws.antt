@@ -11,7 +11,7 @@ use lib.Seq.{sets, drop-cons, drop-drop}
 use lib.Dec.{eqb}
 use borrow.Author.Tests.{eq-eqb, ne-eqb, eqb-true}
 use Rattle.heads.specs.Heads.{begins, standsAt}
-use Rattle.heads.specs.Put.{Put}
+use Rattle.heads.specs.Put.{Put, Putting}
 
 -- one byte of a word more
 pub begins-more : (h s : List ℕ) (i at : ℕ) → i < length h → at < length s
@@ -74,3 +74,18 @@ put-after {r} {place} {xs} {ys} a b =
       next = omega (arith, a .next, b .next, length-append xs ys);
       is = b .is ∙ rw (a .is, a .next) (sym (sets-append r place xs ys));
     }
+
+pub putting-starts : (place : ℕ) (before xs : List ℕ) → Putting place before before place xs xs
+putting-starts place before xs = record { next = refl; is = refl }
+
+pub putting-goes-on : {p q : ℕ} {r s t : List ℕ} {place : ℕ} {all xs ys rest : List ℕ} → rest ≡ xs ++ ys → Putting p s r place all rest
+    → Put q t s p xs → Putting q t r place all ys
+putting-goes-on {p} {s} {xs} {ys} e a b =
+    let c = a .next in
+    record {
+      next = omega (arith, b .next, length-append xs ys, ap length e, c);
+      is = rw (b .is, b .next) (sym (sets-append s p xs ys) ∙ rw (← e) (a .is));
+    }
+
+pub putting-ends : {p : ℕ} {r s : List ℕ} {place : ℕ} {all rest : List ℕ} → rest ≡ [] → Putting p s r place all rest → Put p s r place all
+putting-ends e a = let b = rw e at a in record { next = omega (arith, b .next); is = b .is }

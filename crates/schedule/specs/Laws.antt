@@ -7,11 +7,8 @@ use native.Mathlib.Numerals.{sub-one}
 use Rattle.text.specs.declared.Event.{Event}
 use Rattle.text.specs.Answer.{Answer, gives, refuses, onto}
 use Rattle.text.specs.Reading.{eventReading, endReading}
+use Rattle.text.specs.Laws.{onto-onto}
 use Rattle.schedule.specs.Whole.{eventsReading, restReading}
-
-onto-onto : {A B C : Type 0} (a : Answer A) (f : A → Answer B) (g : B → Answer C) → onto (onto a f) g ≡ onto a (λ x. onto (f x) g)
-onto-onto (gives a) f g = refl
-onto-onto (refuses n v) f g = refl
 
 -- one event more
 pub rest-more : (k : ℕ) (text : List ℕ) (place : ℕ) → 0 < k

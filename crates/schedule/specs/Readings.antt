@@ -23,6 +23,7 @@ use Rattle.text.specs.declared.EventFound.the-variants.{Found, Nothing}
 use Rattle.text.specs.Text.{lf, space, headSizes, headE, headD, headS, longest, openingText, eventText, eventsText, textOf}
 use Rattle.text.specs.Answer.{Answer, gives, refuses, onto}
 use Rattle.text.specs.Reading.{with, enqueueIn, dequeueIn, stepsIn, eventIn, found, lineStarts, wrongAt, numberLine, sizesReading, eventReading, endReading}
+use Rattle.text.specs.Laws.{onto-is, given-is}
 use Rattle.schedule.specs.Meaning.{small, sound, allSound, Writable}
 use Rattle.schedule.specs.Whole.{eventsReading, scheduleReading}
 
@@ -103,15 +104,6 @@ event-reads text place next e k =
     by false true z f g h k = dequeue-reads text (drop place text) (place + 2) next e (g refl) k
     by false false true f g h k = steps-reads text (drop place text) (place + 2) next e (h refl) k
     by false false false f g h k = absurd (not-found e next k)
-
--- the same of answers
-onto-is : {A B : Type 0} (a : Answer A) (f : A → Answer B) (b : B) → onto a f ≡ gives b → (x : A) × (a ≡ gives x) × (f x ≡ gives b)
-onto-is (gives x) f b e = (x, refl, e)
-onto-is (refuses n v) f b e = let z : _≡_ {A = ℕ} 0 1 = cc in absurd (omega arith)
-
-given-is : {A B : Type 0} (a c : A) (b d : B) → _≡_ {A = Answer (A × B)} (gives (a, b)) (gives (c, d)) → (a ≡ c) × (b ≡ d)
-given-is {A} {B} a c b d e =
-    let x : _≡_ {A = A × B} (a, b) (c, d) = cc in (ap (λ (u : A × B). u .0) x, ap (λ (u : A × B). u .1) x)
 
 not-wrong : {A : Type 0} (text : List ℕ) (place : ℕ) (x : A) → wrongAt text place ≡ gives x → ⊥
 unfolding wrongAt

@@ -10,6 +10,7 @@ use lib.ListN.{length, getD, take, List·getD-eq-default}
 use lib.Seq.{take-suc, take-all}
 use lib.Dec.{eqb, leb, ltb}
 use borrow.Author.Tests.{ltb-true, ltb-false, ne-eqb}
+use Rattle.text.specs.Answer.{Answer, gives, refuses, onto}
 use Rattle.text.specs.Text.{lf, longest}
 use Rattle.text.specs.Reading.{lfs, lineStarts}
 
@@ -48,3 +49,16 @@ starts-in text place e = by (leb (length text) longest) (ltb (length text) place
         let n : eqb place 0 ≡ false = ne-eqb place 0 (omega arith) in
         let z : _≡_ {A = Bool} false true = (rw (n, past-end text place h) at g) in absurd (false≢true z)
     by false true f g = absurd (false≢true g)
+
+-- answers, one after the other
+pub onto-onto : {A B C : Type 0} (a : Answer A) (f : A → Answer B) (g : B → Answer C) → onto (onto a f) g ≡ onto a (λ x. onto (f x) g)
+onto-onto (gives a) f g = refl
+onto-onto (refuses n v) f g = refl
+
+pub onto-is : {A B : Type 0} (a : Answer A) (f : A → Answer B) (b : B) → onto a f ≡ gives b → (x : A) × (a ≡ gives x) × (f x ≡ gives b)
+onto-is (gives x) f b e = (x, refl, e)
+onto-is (refuses n v) f b e = let z : _≡_ {A = ℕ} 0 1 = cc in absurd (omega arith)
+
+pub given-is : {A B : Type 0} (a c : A) (b d : B) → _≡_ {A = Answer (A × B)} (gives (a, b)) (gives (c, d)) → (a ≡ c) × (b ≡ d)
+given-is {A} {B} a c b d e =
+    let x : _≡_ {A = A × B} (a, b) (c, d) = cc in (ap (λ (u : A × B). u .0) x, ap (λ (u : A × B). u .1) x)
