@@ -1,9 +1,9 @@
 -- A fresh table.
 use Prim.Native.Nat.{ℕ, zero, suc}
-use mathlib.Core.List.{List, [], _∷_, _++_}
-use mathlib.Core.Bool.{Bool, cond, not}
-use lib.ListN.{length, replicate, drop, set}
-use lib.Dec.{ltb, eqb}
+use mathlib.Core.List.{List, _++_}
+use mathlib.Core.Bool.{cond, not}
+use lib.ListN.{length, replicate, drop}
+use lib.Dec.{ltb}
 use Rattle.words.specs.declared.Sizes.{Sizes}
 use Rattle.words.specs.declared.Word.the-variants.{Head, Tail}
 use Rattle.words.specs.Layout.{queue, limits, words, wr, putCounts}

@@ -1,9 +1,9 @@
 -- What holds of a fresh table.
 use Prim.Native.Nat.{ℕ, zero, suc, _+_, _-_, _≤_, _<_}
 use mathlib.Core.Path.{_≡_, refl, sym, ap, _∙_}
-use mathlib.Core.Logic.{_≢_, _⊎_, ⊎-elim}
+use mathlib.Core.Logic.{_≢_, ⊎-elim}
 use mathlib.Core.List.{List, _++_}
-use mathlib.Core.Bool.{Bool, true, false}
+use mathlib.Core.Bool.{true}
 use native.Mathlib.Omega.{arith}
 use native.Mathlib.Nat.{eq-or-lt-of-le}
 use native.Mathlib.Numerals.{add-one}
@@ -15,7 +15,7 @@ use Rattle.words.specs.declared.Sizes.{Sizes}
 use Rattle.words.specs.declared.Word.{Word}
 use Rattle.words.specs.declared.Word.the-variants.{LevelNode, LevelQueue, Head, Tail, Next, Use}
 use Rattle.words.specs.declared.Measured.the-variants.{Sized}
-use Rattle.words.specs.Layout.{queue, limits, words, measured, has, rd, wr, frameOf, putCounts, noFrame}
+use Rattle.words.specs.Layout.{queue, limits, words, measured, has, rd, wr, frameOf, noFrame}
 use Rattle.words.specs.Laws.{
   Bound,
   bound,

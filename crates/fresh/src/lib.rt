@@ -30,7 +30,7 @@ fn put_ends(t: &mut [u16], s: Sizes)
     let mut i = 0;
     while i < s.queues {
         i += 1;
-        let q = words::narrow(i);
+        let q = i as u16;
         words::store(t, s, Word::Head(Queue(q)), q);
         words::store(t, s, Word::Tail(Queue(q)), q);
     }

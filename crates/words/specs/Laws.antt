@@ -31,7 +31,6 @@ use Rattle.words.specs.Layout.{
   queuesAt,
   nodesAt,
   framesAt,
-  levelsOf,
   sizesOf,
   agrees,
   levelsAgain,
