@@ -6,6 +6,7 @@ use mathlib.Core.List.{List, [], _∷_, _++_}
 use mathlib.Core.Bool.{Bool, true, false, cond}
 use mathlib.Core.Option.{Option, none, some}
 use native.Mathlib.Omega.{arith}
+use native.Mathlib.Nat.{add-zero, zero-add}
 use native.Mathlib.Numerals.{add-one}
 use lib.ListN.{length, drop, set, length-set}
 use lib.Seq.{sets, sets-eq}
@@ -19,7 +20,8 @@ use Rattle.words.specs.Laws.{within-is}
 use Rattle.asks.specs.declared.Chain.{Chain}
 use Rattle.asks.specs.declared.Chain.the-variants.{Ends, Broken}
 use Rattle.asks.specs.Waiting.{named, waiting}
-use Rattle.asks.specs.Listing.{before, chain, nodesFrom}
+use Rattle.asks.specs.Listing.{before, chain, nodesFrom, listed}
+use Rattle.answers.specs.Said.{refused, says}
 
 pub has-node : (s : Sizes) (n : ℕ) → 1 ≤ n → n ≤ s .nodes → (has s (Next (node n)) ≡ true) × (has s (Use (node n)) ≡ true)
 unfolding has
@@ -88,3 +90,65 @@ written (some ns) i room = sets room i ns
 -- node c at place i, unless it is the sentinel q
 unfoldable pub put : ℕ → ℕ → ℕ → List ℕ → List ℕ
 put q c i room = cond (eqb c q) room (set room i c)
+
+pub put-length : (q c i : ℕ) (room : List ℕ) → length (put q c i room) ≡ length room
+unfolding put
+put-length q c i room = by (eqb c q)
+  where
+    by : (b : Bool) → length (cond b room (set room i c)) ≡ length room
+    by true = refl
+    by false = length-set room i c
+
+-- a chain that has room for its nodes and has not ended goes on
+pub chain-going : (s : Sizes) (t : List ℕ) (q n c i : ℕ) (room : List ℕ) → c ≢ 0 → RoomFor (chain s t q n c) i room
+    → (1 ≤ n) × (c ≤ s .nodes)
+chain-going s t q n c i room e h = (some-left n h, by (ltb (s .nodes) c) refl)
+  where
+    some-left : (n : ℕ) → RoomFor (chain s t q n c) i room → 1 ≤ n
+    some-left zero k = absurd (rw (chain-long s t q c e) at k)
+    some-left (suc n) k = omega arith
+
+    by : (b : Bool) → ltb (s .nodes) c ≡ b → c ≤ s .nodes
+    by true k = absurd (rw (chain-above s t q n c e (ltb-true (s .nodes) c k)) at h)
+    by false k = ltb-false (s .nodes) c k
+
+-- one node more of a chain, in its place
+pub record Put (q c i : ℕ) (o : Option (List ℕ)) (room : List ℕ) : Type 0 where
+  pub place : i + weight q c ≤ length room
+  pub rest : RoomFor o (i + weight q c) (put q c i room)
+  pub same : written (before q c o) i room ≡ written o (i + weight q c) (put q c i room)
+
+pub put-more : (q c i : ℕ) (o : Option (List ℕ)) (room : List ℕ) → RoomFor (before q c o) i room → Put q c i o room
+unfolding before weight put
+put-more q c i none room h = absurd h
+put-more q c i (some ns) room h = let r = by (eqb c q) h in record { place = r .0; rest = r .1; same = r .2 }
+  where
+    by : (b : Bool) → i + length (cond b ns (c ∷ ns)) ≤ length room
+        → (i + cond b 0 1 ≤ length room)
+        × (i + cond b 0 1 + length ns ≤ length (cond b room (set room i c)))
+        × (sets room i (cond b ns (c ∷ ns)) ≡ sets (cond b room (set room i c)) (i + cond b 0 1) ns)
+    by true k = (omega arith, omega arith, rw add-zero)
+    by false k = (omega arith, rw length-set (omega arith), rw add-one)
+
+-- ---- the listing, by the count of its chain
+
+pub listed-broken : (o : Option (List ℕ)) (room : List ℕ) → counted 0 o ≡ Broken → listed o room ≡ (refused 10, room)
+unfolding listed
+listed-broken none room e = refl
+listed-broken (some ns) room e = let z : _≡_ {A = ℕ} 0 1 = cc in absurd (omega arith)
+
+pub listed-short : (o : Option (List ℕ)) (n : ℕ) (room : List ℕ) → counted 0 o ≡ Ends n → length room < n
+    → listed o room ≡ (refused 12, room)
+unfolding listed
+listed-short none n room e h = let z : _≡_ {A = ℕ} 0 1 = cc in absurd (omega arith)
+listed-short (some ns) n room e h =
+    let z : 0 + length ns ≡ n = cc in simp (lt-ltb (length room) (length ns) (omega arith))
+
+pub listed-written : (o : Option (List ℕ)) (n : ℕ) (room : List ℕ) → counted 0 o ≡ Ends n → n ≤ length room
+    → RoomFor o 0 room × (listed o room ≡ (says n, written o 0 room))
+unfolding listed
+listed-written none n room e h = let z : _≡_ {A = ℕ} 0 1 = cc in absurd (omega arith)
+listed-written (some ns) n room e h =
+    let z : 0 + length ns ≡ n = cc in
+    let k : 0 + length ns ≤ length room = omega arith in
+    (k, simp (le-ltb (length room) n h, sets-eq ns room 0 k, zero-add, rw zero-add at z))

@@ -37,10 +37,11 @@ pub fn quiet(t: &[u16], q: Queue) -> answers::Quiet
 }
 
 // 1 where the use of node i names the queue.
-fn names(t: &[u16], s: Sizes, q: Queue, i: usize) -> usize
+fn names(t: &[u16], s: Sizes, q: Queue, i: usize) -> u16
     requires { ⌜ Fits s (now t) ⌝ }
     requires { ⌜ (1 ≤ i) × (i ≤ s .nodes) ⌝ }
-    ensures { λ r. ⌜ (r ≡ named s (now (t .entry)) q i) × (r ≤ 1) ⌝ }
+    ensures { λ r. ⌜ r ≡ named s (now (t .entry)) q i ⌝ }
+    ensures { λ r. ⌜ r ≤ 1 ⌝ }
 {
     if words::load(t, s, Word::Use(Node(i as u16))) == q.0 {
         1
@@ -59,10 +60,9 @@ fn count_waiting(t: &[u16], s: Sizes, q: Queue) -> u16
         i += 1;
         n += names(t, s, q, i);
     }
-    words::narrow(n)
+    n
 }
 
-// How many nodes the queue has by their use.
 pub fn waiting(t: &[u16], q: Queue) -> Counted
     ensures { λ r. ⌜ waitingOf (now (t .entry)) q ≡ countSays r ⌝ }
 {
@@ -78,9 +78,9 @@ pub fn waiting(t: &[u16], q: Queue) -> Counted
     }
 }
 
-// A chain that ends, with its number of nodes but the sentinel, or one that does not.
+// A chain that ends, with its number of nodes but the sentinel, or one of refusal 10.
 pub enum Chain {
-    Ends(usize),
+    Ends(u16),
     Broken,
 }
 
@@ -90,7 +90,7 @@ fn is_sentinel(q: Queue, c: Node) -> bool
     c.0 == q.0
 }
 
-fn weight_of(q: Queue, c: Node) -> usize
+fn weight_of(q: Queue, c: Node) -> u16
     ensures { λ r. ⌜ r ≡ weight (q .0) (c .0) ⌝ }
     ensures { λ r. ⌜ r ≤ 1 ⌝ }
 {
@@ -116,4 +116,78 @@ fn count_chain(t: &[u16], s: Sizes, q: Queue, head: Node) -> Chain
         left -= 1;
     }
     Chain::Ends(n)
+}
+
+// Puts node c at place i, unless it is the sentinel, and answers the next place.
+fn put_node(room: &mut [u16], i: usize, q: Queue, c: Node) -> usize
+    requires { ⌜ i + weight (q .0) (c .0) ≤ length (now room) ⌝ }
+    ensures { λ r. ⌜ (r ≡ i + weight (q .0) (c .0)) × (now (room .exit) ≡ put (q .0) (c .0) i (now (room .entry))) ⌝ }
+{
+    if is_sentinel(q, c) {
+        i
+    } else {
+        room[i] = c.0;
+        i + 1
+    }
+}
+
+// Writes the nodes of a chain that ends; left only shows that the walk does.
+fn write_chain(t: &[u16], s: Sizes, q: Queue, head: Node, room: &mut [u16])
+    requires { ⌜ Fits s (now t) ⌝ }
+    requires { ⌜ RoomFor (chain s (now t) (q .0) (s .nodes) (head .0)) 0 (now room) ⌝ }
+    ensures { λ _. ⌜ now (room .exit) ≡ written (chain s (now (t .entry)) (q .0) (s .nodes) (head .0)) 0 (now (room .entry)) ⌝ }
+{
+    let mut c = head;
+    let mut left = s.nodes;
+    let mut i = 0;
+    while c.0 != 0 {
+        i = put_node(room, i, q, c);
+        c = Node(words::load(t, s, Word::Next(c)));
+        left -= 1;
+    }
+}
+
+fn list_nodes(t: &[u16], s: Sizes, q: Queue, room: &mut [u16]) -> Counted
+    requires { ⌜ Fits s (now t) ⌝ }
+    requires { ⌜ has s (Head q) ≡ true ⌝ }
+    ensures { λ r. ⌜ listed (nodesOf s (now (t .entry)) q) (now (room .entry)) ≡ (countSays r, now (room .exit)) ⌝ }
+{
+    let head = Node(words::load(t, s, Word::Head(q)));
+    if head.0 == 0 {
+        return Counted::Refused(10);
+    }
+    match count_chain(t, s, q, head) {
+        Chain::Broken => Counted::Refused(10),
+        Chain::Ends(n) => {
+            if room.len() < words::wide(n) {
+                Counted::Refused(12)
+            } else {
+                write_chain(t, s, q, head, room);
+                Counted::Are(n)
+            }
+        }
+    }
+}
+
+fn list_sized(t: &[u16], s: Sizes, q: Queue, room: &mut [u16]) -> Counted
+    requires { ⌜ Fits s (now t) ⌝ }
+    ensures { λ r. ⌜ listingSized s (now (t .entry)) q (now (room .entry)) ≡ (countSays r, now (room .exit)) ⌝ }
+{
+    if conditions::no_queue(s, q) {
+        Counted::Refused(4)
+    } else if conditions::is_unquiet(t, s, q) {
+        Counted::Refused(11)
+    } else {
+        list_nodes(t, s, q, room)
+    }
+}
+
+// Writes the queue's nodes from head on into the room, and answers how many.
+pub fn listing(t: &[u16], q: Queue, room: &mut [u16]) -> Counted
+    ensures { λ r. ⌜ listingOf (now (t .entry)) q (now (room .entry)) ≡ (countSays r, now (room .exit)) ⌝ }
+{
+    match words::measure(t) {
+        Measured::Unfit => Counted::Refused(1),
+        Measured::Sized(s) => list_sized(t, s, q, room),
+    }
 }
