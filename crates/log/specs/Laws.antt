@@ -1,0 +1,1 @@
+-- What the proofs of the log cite.

@@ -1,0 +1,1 @@
+-- A run is so many single steps.
