@@ -20,8 +20,9 @@ use Rattle.words.specs.Laws.{Bound, has-is}
 use Rattle.asks.specs.declared.Chain.{Chain}
 use Rattle.asks.specs.declared.Chain.the-variants.{Ends, Broken}
 use Rattle.asks.specs.Waiting.{named, waiting}
-use Rattle.asks.specs.Listing.{before, chain, nodesFrom, listed}
 use Rattle.answers.specs.Said.{refused, says}
+use Rattle.asks.specs.Listing.{before, chain, nodesFrom, listed}
+use Rattle.asks.specs.Inner.{weight, counted, RoomFor, written, put}
 
 -- ---- the waiting count
 
@@ -33,22 +34,22 @@ waiting-more s t q i n k a b = rw (a, b, add-one)
 -- ---- the chain
 
 module _ (s : Sizes) (t : List ℕ) (q : ℕ) where
-  chain-ended : (n c : ℕ) → c ≡ 0 → chain s t q n c ≡ some []
+  pub chain-ended : (n c : ℕ) → c ≡ 0 → chain s t q n c ≡ some []
   unfolding chain
   chain-ended zero c e = simp (eq-eqb c 0 e)
   chain-ended (suc n) c e = simp (eq-eqb c 0 e)
 
-  chain-long : (n c : ℕ) → c ≢ 0 → n ≡ 0 → chain s t q n c ≡ none
+  pub chain-long : (n c : ℕ) → c ≢ 0 → n ≡ 0 → chain s t q n c ≡ none
   unfolding chain
   chain-long zero c e z = simp (ne-eqb c 0 e)
   chain-long (suc n) c e z = absurd (omega arith)
 
-  chain-above : (n c : ℕ) → c ≢ 0 → s .nodes < c → chain s t q n c ≡ none
+  pub chain-above : (n c : ℕ) → c ≢ 0 → s .nodes < c → chain s t q n c ≡ none
   unfolding chain
   chain-above zero c e h = simp (ne-eqb c 0 e)
   chain-above (suc n) c e h = simp (ne-eqb c 0 e, lt-ltb (s .nodes) c h)
 
-  chain-more : (n c : ℕ) → c ≢ 0 → 1 ≤ n → c ≤ s .nodes
+  pub chain-more : (n c : ℕ) → c ≢ 0 → 1 ≤ n → c ≤ s .nodes
       → chain s t q n c ≡ before q c (chain s t q (n - 1) (rd s t (Next (node c))))
   unfolding chain
   chain-more zero c e l h = absurd (omega arith)
@@ -56,15 +57,6 @@ module _ (s : Sizes) (t : List ℕ) (q : ℕ) where
       let z : suc n - 1 ≡ n = omega arith in simp (ne-eqb c 0 e, le-ltb (s .nodes) c h, z)
 
 -- ---- counting it
-
--- 1 for a node of the listing, 0 for the sentinel q
-unfoldable pub weight : ℕ → ℕ → ℕ
-weight q c = cond (eqb c q) 0 1
-
--- k nodes and those of a chain
-unfoldable pub counted : ℕ → Option (List ℕ) → Chain
-counted k none = Broken
-counted k (some ns) = Ends (k + length ns)
 
 counted-before : (q c k : ℕ) (o : Option (List ℕ)) → counted k (before q c o) ≡ counted (k + weight q c) o
 unfolding before weight counted
@@ -96,20 +88,6 @@ module _ {s : Sizes} {t : List ℕ} {q n c k : ℕ} {all : Chain} (w : Counting 
   counting-more e l h = record { is = sym (counted-before q c k _) ∙ rw (chain-more s t q n c e l h) at (w .is) }
 
 -- ---- writing it
-
--- the room has places from i on for a chain's nodes
-unfoldable pub RoomFor : Option (List ℕ) → ℕ → List ℕ → Type 0
-RoomFor none i room = ⊥
-RoomFor (some ns) i room = i + length ns ≤ length room
-
--- the room with them there
-unfoldable pub written : Option (List ℕ) → ℕ → List ℕ → List ℕ
-written none i room = room
-written (some ns) i room = sets room i ns
-
--- the room with node c at place i, or as it is for the sentinel q
-unfoldable pub put : ℕ → ℕ → ℕ → List ℕ → List ℕ
-put q c i room = cond (eqb c q) room (set room i c)
 
 put-before : (q c i : ℕ) (o : Option (List ℕ)) (room : List ℕ) → RoomFor (before q c o) i room
     → (i + weight q c ≤ length room)

@@ -11,7 +11,7 @@ ghost use Rattle.answers.specs.Said.{quietSays, countSays};
 ghost use Rattle.asks.specs.Quiet.{quietOf};
 ghost use Rattle.asks.specs.Waiting.{named, waiting, waitingOf};
 ghost use Rattle.asks.specs.Listing.{chain, nodesOf, listed, listingSized, listingOf};
-ghost use Rattle.asks.specs.Laws.{weight, counted, RoomFor, written, put};
+ghost use Rattle.asks.specs.Inner.{weight, counted, RoomFor, written, put};
 use answers::Counted;
 use words::Measured;
 use words::Node;

@@ -3,7 +3,8 @@ use mathlib.Core.Path.{refl}
 use native.Mathlib.Omega.{arith}
 use Rattle.words.specs.Laws.{Bound, has-is}
 use Rattle.asks.specs.Listing.{chain}
-use Rattle.asks.specs.Laws.{counted, Counting, counting-long, counting-above, counting-ended, counting-more}
+use Rattle.asks.specs.Inner.{counted}
+use Rattle.asks.specs.Laws.{Counting, counting-long, counting-above, counting-ended, counting-more}
 use borrow.Author.Needs.{needs}
 use Rattle.asks.proofs.count_chain.Statement.{statement}
 use Rattle.asks.proofs.count_chain.Tie as tie

@@ -1,7 +1,7 @@
 use native.Mathlib.Omega.{arith}
 use native.Mathlib.Nat.{add-zero}
 use Rattle.words.specs.Laws.{told}
-use Rattle.asks.specs.Laws.{weight, put}
+use Rattle.asks.specs.Inner.{weight, put}
 use borrow.Author.Needs.{needs}
 use Rattle.asks.proofs.put_node.Statement.{statement}
 use Rattle.asks.proofs.put_node.Tie as tie

@@ -1,5 +1,5 @@
 use Rattle.words.specs.Laws.{told}
-use Rattle.asks.specs.Laws.{weight}
+use Rattle.asks.specs.Inner.{weight}
 use borrow.Author.Needs.{needs}
 use Rattle.asks.proofs.weight_of.Statement.{statement}
 use Rattle.asks.proofs.weight_of.Tie as tie

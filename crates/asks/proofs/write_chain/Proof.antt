@@ -2,7 +2,8 @@ use mathlib.Core.Path.{_≡_, refl}
 use native.Mathlib.Omega.{arith}
 use lib.ListN.{length}
 use Rattle.asks.specs.Listing.{chain}
-use Rattle.asks.specs.Laws.{written, Writing, writing-ended, goes}
+use Rattle.asks.specs.Inner.{written}
+use Rattle.asks.specs.Laws.{Writing, writing-ended, goes}
 use borrow.Author.Needs.{needs}
 use Rattle.asks.proofs.write_chain.Statement.{statement}
 use Rattle.asks.proofs.write_chain.Tie as tie
