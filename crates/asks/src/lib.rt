@@ -10,8 +10,8 @@ ghost use Rattle.words.specs.Inner.{Fits};
 ghost use Rattle.answers.specs.Said.{quietSays, countSays};
 ghost use Rattle.asks.specs.Quiet.{quietOf};
 ghost use Rattle.asks.specs.Waiting.{named, waiting, waitingOf};
-ghost use Rattle.asks.specs.Listing.{chain, nodesFrom, nodesOf, listed, listingSized, listingOf};
-ghost use Rattle.asks.specs.Laws.{weight, counted, RoomFor, written, put};
+ghost use Rattle.asks.specs.Listing.{chain, nodesOf, listed, listingSized, listingOf};
+ghost use Rattle.asks.specs.Inner.{weight, counted, RoomFor, written, put};
 use answers::Counted;
 use words::Measured;
 use words::Node;
@@ -139,9 +139,9 @@ fn write_chain(t: &[u16], s: Sizes, q: Queue, head: Node, room: &mut [u16])
 {
     let mut c = head;
     let mut left = s.nodes;
-    let mut i = 0;
+    let mut at = 0;
     while c.0 != 0 {
-        i = put_node(room, i, q, c);
+        at = put_node(room, at, q, c);
         c = Node(words::load(t, s, Word::Next(c)));
         left -= 1;
     }

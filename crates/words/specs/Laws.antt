@@ -530,3 +530,13 @@ measured-counts s t lim room =
     let ok : agrees s (putCounts s t) ≡ true =
     simp (lim, length-set, le-leb (words s) (length t) room, w .3, eq-eqb (s .levels) (s .levels) refl) in
     measured-is (putCounts s t) s is ok
+
+-- a word whose number is in its range is one of the table's
+pub has-is : (s : Sizes) (w : Word) → Bound s w → has s w ≡ true
+unfolding has Bound
+has-is s (LevelNode l) b = lt-ltb (l .0) (s .levels) b
+has-is s (LevelQueue l) b = lt-ltb (l .0) (s .levels) b
+has-is s (Head q) b = within-is 1 (s .queues) (q .0) (b .0) (b .1)
+has-is s (Tail q) b = within-is 1 (s .queues) (q .0) (b .0) (b .1)
+has-is s (Next n) b = within-is 1 (s .nodes) (n .0) (b .0) (b .1)
+has-is s (Use n) b = within-is 1 (s .nodes) (n .0) (b .0) (b .1)

@@ -6,9 +6,6 @@ use Rattle.asks.specs.Laws.{waiting-more}
 use borrow.Author.Needs.{needs}
 use Rattle.asks.proofs.count_waiting.Statement.{statement}
 use Rattle.asks.proofs.count_waiting.Tie as tie
-use Rattle.asks.proofs.count_waiting.Reads as reads
-use Rattle.asks.proofs.count_waiting.Lts as lts
-use Rattle.asks.proofs.names.Reads as names-reads
 
 abbrev Inv-loop : tie.InvT-loop
 Inv-loop t s q i₀ n₀ i n = (i ≤ s .nodes) × (n ≤ i) × (n ≡ waiting s t q i)
@@ -16,36 +13,18 @@ Inv-loop t s q i₀ n₀ i n = (i ≤ s .nodes) × (n ≤ i) × (n ≡ waiting s
 abbrev μ-loop : tie.MeasureT-loop
 μ-loop t s q i₀ n₀ i n = s .nodes - i
 
--- src/lib.rt:59:5
 loop-holds : tie.Need-loop-holds Inv-loop μ-loop
 unfolding waiting
 loop-holds c = (search needs, search needs, refl)
 
--- src/lib.rt:60:9
-add-i : tie.Need-add-i Inv-loop μ-loop
-add-i c = search needs
-
--- src/lib.rt:61:14
-names-requires : tie.Need-names-requires Inv-loop μ-loop
-names-requires c κs = search needs
-
--- src/lib.rt:61:9
-add-n : tie.Need-add-n Inv-loop μ-loop
-add-n c = search needs
-
--- src/lib.rt:59:5
-loop-less : tie.Need-loop-less Inv-loop μ-loop
-loop-less c = search needs
-
--- src/lib.rt:59:5
 loop-again : tie.Need-loop-again Inv-loop μ-loop
-loop-again c = (search needs, search needs, waiting-more (c .before .before .before .before .before .args .s) ((c .before .before .before .before .before .args .t) .now) (c .before .before .before .before .before .args .q) (c .before .before .before .loop .i) (c .before .before .before .loop .n) (c .names .result) ((c .before .before .before .loop .inv) .2) ((c .names .ensures) .0))
+loop-again c = (search needs, search needs, waiting-more _ _ _ _ _ _ (c .before .before .before .loop .inv .2) (c .names .ensures .0))
 
--- src/lib.rt:53:1
 returns : tie.Need-returns Inv-loop μ-loop
-returns c = let z : (c .before .before .loop .i) ≡ (c .before .before .before .before .args .s) .nodes = omega arith in (c .before .before .loop .inv) .2 ∙ ap (waiting (c .before .before .before .before .args .s) ((c .before .before .before .before .args .t) .now) (c .before .before .before .before .args .q)) z
+returns c = let z : (c .before .before .loop .i) ≡ (c .before .before .before .before .args .s) .nodes = omega arith in (c .before .before .loop .inv) .2 ∙ ap (waiting (c .before .before .before .before .args .s) (c .before .before .before .before .args .t .now) (c .before .before .before .before .args .q)) z
 
 pub count-waiting-spec : {M : Type 1} → statement M
 count-waiting-spec =
     tie.close
-    (tie.spec Inv-loop μ-loop loop-holds add-i names-requires add-n loop-less loop-again returns)
+    (tie.spec Inv-loop μ-loop loop-holds (λ c. search needs) (λ c κs. search needs) (λ c. search needs) (λ c. search needs)
+    loop-again returns)
