@@ -25,7 +25,8 @@ use Rattle.text.specs.Laws.{starts-in}
 use Rattle.schedule.specs.Meaning.{small, sound, allSound, Writable}
 use Rattle.schedule.specs.Whole.{eventsReading, scheduleReading}
 
-after : (text xs rest : List ℕ) (at : ℕ) → drop at text ≡ xs ++ rest → drop (at + length xs) text ≡ rest
+-- what follows a part that stands at a place
+pub after : (text xs rest : List ℕ) (at : ℕ) → drop at text ≡ xs ++ rest → drop (at + length xs) text ≡ rest
 after text xs rest at e = sym (drop-drop (length xs) at text) ∙ ap (drop (length xs)) e ∙ drop-append-seam xs rest
 
 -- a field is read, with the next place, the bytes there, and the byte before it

@@ -27,24 +27,43 @@ pub kind-room : (words : List ℕ) (at kind n : ℕ) → isKind words at kind n 
 unfolding isKind
 kind-room words at kind n h = leb-true (at + n) (length words) (and-first (leb (at + n) (length words)) (eqb (getD words at 0) kind) h)
 
--- the words of an event are among the words
-pub event-on : (words : List ℕ) (at next : ℕ) (e : Event) → eventIn words at ≡ Found e next → next ≤ length words
+-- an event's words, by their kind
+pub data Told (words : List ℕ) (at : ℕ) (e : Event) (next : ℕ) : Type 0 where
+  enqueued : at + 4 ≤ length words → at + 4 ≡ next
+      → Enqueue (record { 0 = getD words (at + 1) 0 }) (record { 0 = getD words (at + 2) 0 }) (record { 0 = getD words (at + 3) 0 }) ≡ e
+      → Told words at e next
+  dequeued : at + 3 ≤ length words → at + 3 ≡ next
+      → Dequeue (record { 0 = getD words (at + 1) 0 }) (record { 0 = getD words (at + 2) 0 }) ≡ e → Told words at e next
+  stepped : at + 2 ≤ length words → at + 2 ≡ next → 1 ≤ getD words (at + 1) 0 → Steps (getD words (at + 1) 0) ≡ e → Told words at e next
+
+pub event-told : (words : List ℕ) (at next : ℕ) (e : Event) → eventIn words at ≡ Found e next → Told words at e next
 unfolding eventIn
-event-on words at next e h =
+event-told words at next e h =
     by (isKind words at 1 4) (isKind words at 2 3) (isKind words at 3 2) (leb 1 (getD words (at + 1) 0))
-    (kind-room words at 1 4) (kind-room words at 2 3) (kind-room words at 3 2)
-    (Enqueue (record { 0 = getD words (at + 1) 0 }) (record { 0 = getD words (at + 2) 0 }) (record { 0 = getD words (at + 3) 0 }))
-    (Dequeue (record { 0 = getD words (at + 1) 0 }) (record { 0 = getD words (at + 2) 0 }))
-    (Steps (getD words (at + 1) 0)) h
+    (kind-room words at 1 4) (kind-room words at 2 3) (kind-room words at 3 2) (leb-true 1 (getD words (at + 1) 0)) h
   where
     by : (x y z t : Bool) → (x ≡ true → at + 4 ≤ length words) → (y ≡ true → at + 3 ≤ length words) → (z ≡ true → at + 2 ≤ length words)
-        → (a b c : Event) → cond x (Found a (at + 4)) (cond y (Found b (at + 3)) (cond (z && t) (Found c (at + 2)) Nothing)) ≡ Found e next
-        → next ≤ length words
-    by true y z t f g h a b c k = let n : at + 4 ≡ next = cc in omega (arith, f refl)
-    by false true z t f g h a b c k = let n : at + 3 ≡ next = cc in omega (arith, g refl)
-    by false false true true f g h a b c k = let n : at + 2 ≡ next = cc in omega (arith, h refl)
-    by false false true false f g h a b c k = let z : _≡_ {A = ℕ} 0 1 = cc in absurd (omega arith)
-    by false false false t f g h a b c k = let z : _≡_ {A = ℕ} 0 1 = cc in absurd (omega arith)
+        → (t ≡ true → 1 ≤ getD words (at + 1) 0)
+        → cond x
+        (Found (Enqueue (record { 0 = getD words (at + 1) 0 }) (record { 0 = getD words (at + 2) 0 }) (record { 0 = getD words (at + 3) 0 })) (at + 4))
+        (cond y (Found (Dequeue (record { 0 = getD words (at + 1) 0 }) (record { 0 = getD words (at + 2) 0 })) (at + 3))
+        (cond (z && t) (Found (Steps (getD words (at + 1) 0)) (at + 2)) Nothing))
+        ≡ Found e next
+        → Told words at e next
+    by true y z t f g h i k = enqueued (f refl) (cc) (cc)
+    by false true z t f g h i k = dequeued (g refl) (cc) (cc)
+    by false false true true f g h i k = stepped (h refl) (cc) (i refl) (cc)
+    by false false true false f g h i k = let z : _≡_ {A = ℕ} 0 1 = cc in absurd (omega arith)
+    by false false false t f g h i k = let z : _≡_ {A = ℕ} 0 1 = cc in absurd (omega arith)
+
+-- the words of an event are among the words
+pub event-on : (words : List ℕ) (at next : ℕ) (e : Event) → eventIn words at ≡ Found e next → next ≤ length words
+event-on words at next e h = by (event-told words at next e h)
+  where
+    by : Told words at e next → next ≤ length words
+    by (enqueued r n k) = omega arith
+    by (dequeued r n k) = omega arith
+    by (stepped r n c k) = omega arith
 
 pub lengths-more : (n k line : ℕ) (words : List ℕ) (at next : ℕ) (e : Event) → 0 < k → eventIn words at ≡ Found e next
     → lengthsIn n k line words at ≡ lengthsIn (n + length (eventText e)) (k - 1) (line + 1) words next

@@ -13,11 +13,24 @@ use Rattle.text.specs.Text.{textOf, longest}
 use Rattle.text.specs.Answer.{Answer, gives, refuses, onto}
 use Rattle.writing.specs.declared.Written.{Written}
 
+-- a schedule's words: an event is 1 level queue node, 2 level queue, or 3 count
+unfoldable pub eventWords : Event → List ℕ
+eventWords (Enqueue l q n) = 1 ∷ l .0 ∷ q .0 ∷ n .0 ∷ []
+eventWords (Dequeue l q) = 2 ∷ l .0 ∷ q .0 ∷ []
+eventWords (Steps count) = 3 ∷ count ∷ []
+
+unfoldable pub eventsWords : List Event → List ℕ
+eventsWords [] = []
+eventsWords (e ∷ es) = eventWords e ++ eventsWords es
+
+unfoldable pub wordsOf : Opening → List Event → List ℕ
+wordsOf o es = o .levels ∷ o .queues ∷ o .nodes ∷ o .events ∷ eventsWords es
+
 -- the words at a place are n words of this kind
 unfoldable pub isKind : List ℕ → ℕ → ℕ → ℕ → Bool
 isKind words at kind n = leb (at + n) (length words) && eqb (getD words at 0) kind
 
--- 1 level queue node, 2 level queue, or 3 count with count 1 or more; and the place after these words
+-- the event at a place, S with a count of 1 or more, and the place after its words
 unfoldable pub eventIn : List ℕ → ℕ → EventFound
 eventIn words at =
     cond (isKind words at 1 4)
