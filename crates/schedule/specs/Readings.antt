@@ -2,7 +2,7 @@
 use Prim.Native.Nat.{ℕ, zero, suc, _+_, _-_, _≤_, _<_}
 use mathlib.Core.Path.{_≡_, refl, sym, ap, _∙_}
 use mathlib.Core.List.{List, [], _∷_, _++_, append-assoc, append-nil}
-use mathlib.Core.Bool.{Bool, true, false, cond, _&&_, _||_}
+use mathlib.Core.Bool.{Bool, true, false, cond, _&&_, _||_, and-eq-true-iff}
 use native.Mathlib.Omega.{arith}
 use lib.ListN.{length, drop}
 use lib.Seq.{drop-length}
@@ -11,7 +11,6 @@ use borrow.Author.Tests.{leb-true, eqb-true}
 use Rattle.decimals.specs.declared.FieldRead.{FieldRead}
 use Rattle.decimals.specs.declared.FieldRead.the-variants.{Number, Wrong}
 use Rattle.decimals.specs.Decimals.{fieldAt, fieldOf}
-use Rattle.decimals.specs.Laws.{and-first, and-second}
 use Rattle.decimals.specs.Inverse.{field-reads}
 use Rattle.heads.specs.Heads.{standsAt}
 use Rattle.heads.specs.Laws.{stands-is}
@@ -176,7 +175,7 @@ sizes-answer text next o h =
     let x = given-is (record { levels = a .0; queues = b .0; nodes = c .0; events = d .0 }) o (d .1) next (d .3) in
     let r : Opens (record { levels = a .0; queues = b .0; nodes = c .0; events = d .0 }) text (drop (d .1) text) =
     record {
-      is = stands-is headSizes text 0 (and-second (lineStarts text 0) (standsAt headSizes text 0) (z .0))
+      is = stands-is headSizes text 0 (and-eq-true-iff (lineStarts text 0) (standsAt headSizes text 0) .0 (z .0) .1)
           ∙ simp (l .is, q .is, n .is, e .is, append-assoc);
       levels = l .small;
       queues = q .small;
@@ -194,10 +193,10 @@ end-answers : (text : List ℕ) (place : ℕ) → endReading text place ≡ give
 unfolding endReading lineStarts
 end-answers text place h =
     let z = cond-is (lineStarts text place && eqb place (length text)) _ text place tt h in
+    let two = and-eq-true-iff (lineStarts text place) (eqb place (length text)) .0 (z .0) in
     record {
-      short = leb-true (length text) longest
-          (and-first (leb (length text) longest) _ (and-first (lineStarts text place) (eqb place (length text)) (z .0)));
-      at = eqb-true place (length text) (and-second (lineStarts text place) (eqb place (length text)) (z .0));
+      short = leb-true (length text) longest (and-eq-true-iff (leb (length text) longest) _ .0 (two .0) .0);
+      at = eqb-true place (length text) (two .1);
     }
 
 -- a whole text that was read is the text of what was read

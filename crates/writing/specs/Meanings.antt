@@ -20,7 +20,7 @@ use Rattle.text.specs.Laws.{onto-is, given-is}
 use Rattle.schedule.specs.Writings.{after}
 use Rattle.schedule.specs.Meaning.{small, sound, allSound, Writable}
 use Rattle.writing.specs.Writing.{eventWords, eventsWords, wordsOf, isKind, eventIn, noText, found, eventsIn, openingIn, scheduleIn, fitting, textIn}
-use Rattle.writing.specs.Laws.{Told, enqueued, dequeued, stepped, event-told}
+use Rattle.writing.specs.Laws.{Told, enqueued, dequeued, stepped, event-told, found-is, Saying, saying, Fitting, fitting-is}
 
 -- the words are 16-bit
 abbrev pub allSmall : List ℕ → Type 0
@@ -34,11 +34,6 @@ event-sound words at next e s h = by (event-told words at next e h)
     by (enqueued r n k) = rw (← k) (s (at + 1), s (at + 2), s (at + 3))
     by (dequeued r n k) = rw (← k) (s (at + 1), s (at + 2))
     by (stepped r n c k) = rw (← k) (s (at + 1), c)
-
-found-is : (line : ℕ) (r : EventFound) (e : Event) (next : ℕ) → found line r ≡ gives (e, next) → r ≡ Found e next
-unfolding found noText
-found-is line (Found d p) e next h = let x = given-is d e p next h in rw (x .0, x .1)
-found-is line Nothing e next h = let z : _≡_ {A = ℕ} 0 1 = cc in absurd (omega arith)
 
 record AllTold (k : ℕ) (es : List Event) : Type 0 where
   counted : length es ≡ k
@@ -70,50 +65,31 @@ pub record Stands (words text : List ℕ) : Type 0 where
   pub is : text ≡ textOf opening events
   pub writable : Writable opening events
 
-record Fitting (s t : List ℕ) : Type 0 where
-  is : s ≡ t
-  short : length s ≤ longest
-
-fitting-is : (s t : List ℕ) → fitting s ≡ gives t → Fitting s t
-unfolding fitting noText
-fitting-is s t h = by (leb (length s) longest) refl h
-  where
-    by : (b : Bool) → leb (length s) longest ≡ b → cond b (gives s) (noText 0) ≡ gives t → Fitting s t
-    by true f h = record { is = cc; short = leb-true (length s) longest f }
-    by false f h = let z : _≡_ {A = ℕ} 0 1 = cc in absurd (omega arith)
-
 pub stands : (words text : List ℕ) → allSmall words → textIn words ≡ gives text → Stands words text
-unfolding textIn scheduleIn noText
+unfolding textIn
 stands words text s h =
     let a = onto-is (scheduleIn words) _ text h in
-    let f = fitting-is (textOf (a .0 .0) (a .0 .1)) text (a .2) in
-    by (leb 4 (length words)) (a .0 .0) (a .0 .1) (a .1) (f .is) (f .short) (a .1)
+    by (a .0 .0) (a .0 .1) (a .1) (saying words (a .0 .0) (a .0 .1) (a .1)) (fitting-is (textOf (a .0 .0) (a .0 .1)) text (a .2))
   where
-    by : (b : Bool) (o : Opening) (es : List Event) → scheduleIn words ≡ gives (o, es) → textOf o es ≡ text → length (textOf o es) ≤ longest
-        → cond b (onto {B = Opening × List Event} (eventsIn (openingIn words .events) 6 words 4) (λ es. gives (openingIn words, es))) (noText (length words + 2))
-        ≡ gives (o, es)
-        → Stands words text
-    by true o es m is short k =
-        let a = onto-is (eventsIn (openingIn words .events) 6 words 4) _ (o, es) k in
-        let x = given-is (openingIn words) o (a .0) es (a .2) in
-        let t = rw (x .1) at (events-told (openingIn words .events) 6 words 4 (a .0) s (a .1)) in
+    by : (o : Opening) (es : List Event) → scheduleIn words ≡ gives (o, es) → Saying words o es → Fitting (textOf o es) text → Stands words text
+    by o es m y f =
+        let t = events-told (openingIn words .events) 6 words 4 es s (y .events) in
         record {
           opening = o;
           events = es;
           meant = m;
-          is = sym is;
+          is = sym (f .is);
           writable =
               record {
-                levels = rw (← x .0) (s 0);
-                queues = rw (← x .0) (s 1);
-                nodes = rw (← x .0) (s 2);
-                events = rw (← x .0) (s 3);
-                counted = t .counted ∙ ap (λ (p : Opening). p .events) (x .0);
+                levels = rw (← y .opening) (s 0);
+                queues = rw (← y .opening) (s 1);
+                nodes = rw (← y .opening) (s 2);
+                events = rw (← y .opening) (s 3);
+                counted = t .counted ∙ ap (λ (p : Opening). p .events) (y .opening);
                 each = t .each;
-                short = short;
+                short = f .short;
               };
         }
-    by false o es m is short k = let z : _≡_ {A = ℕ} 0 1 = cc in absurd (omega arith)
 
 -- the words of a schedule stand for it
 word : (words rest : List ℕ) (at i : ℕ) → drop at words ≡ rest → getD words (at + i) 0 ≡ getD rest i 0
