@@ -1,8 +1,8 @@
 -- From a reading to the bytes that were read.
-use Prim.Native.Nat.{ℕ, zero, suc, _+_, _-_, _≤_, _<_}
-use mathlib.Core.Path.{_≡_, refl, sym, ap, _∙_}
+use Prim.Native.Nat.{ℕ, zero, suc, _+_, _-_, _≤_}
+use mathlib.Core.Path.{_≡_, refl, ap, _∙_}
 use mathlib.Core.List.{List, [], _∷_, _++_, append-assoc, append-nil}
-use mathlib.Core.Bool.{Bool, true, false, cond, _&&_, _||_, and-eq-true-iff}
+use mathlib.Core.Bool.{Bool, true, false, cond, _&&_, and-eq-true-iff}
 use native.Mathlib.Omega.{arith}
 use lib.ListN.{length, drop}
 use lib.Seq.{drop-length}
@@ -20,7 +20,7 @@ use Rattle.text.specs.declared.Event.the-variants.{Enqueue, Dequeue, Steps}
 use Rattle.text.specs.declared.EventFound.{EventFound}
 use Rattle.text.specs.declared.EventFound.the-variants.{Found, Nothing}
 use Rattle.text.specs.Text.{lf, space, headSizes, headE, headD, headS, longest, openingText, eventText, eventsText, textOf}
-use Rattle.text.specs.Answer.{Answer, gives, refuses, onto}
+use Rattle.text.specs.Answer.{Answer, gives}
 use Rattle.text.specs.Reading.{with, enqueueIn, dequeueIn, stepsIn, eventIn, found, lineStarts, wrongAt, numberLine, sizesReading, eventReading, endReading}
 use Rattle.text.specs.Laws.{onto-is, given-is}
 use Rattle.schedule.specs.Meaning.{small, sound, allSound, Writable}

@@ -1,9 +1,9 @@
 -- The reading of a schedule's text at a place.
-use Prim.Native.Nat.{ℕ, zero, suc, _+_, _-_}
+use Prim.Native.Nat.{ℕ, _+_, _-_}
 use mathlib.Core.List.{List, [], _∷_}
 use mathlib.Core.Bool.{Bool, cond, _&&_, _||_}
 use lib.ListN.{length, getD, take}
-use lib.Dec.{ltb, leb, eqb}
+use lib.Dec.{leb, eqb}
 use Rattle.decimals.specs.declared.FieldRead.{FieldRead}
 use Rattle.decimals.specs.declared.FieldRead.the-variants.{Number, Wrong}
 use Rattle.decimals.specs.Decimals.{fieldAt}
@@ -17,7 +17,7 @@ use Rattle.text.specs.declared.SizesRead.{SizesRead}
 use Rattle.text.specs.declared.EventRead.{EventRead}
 use Rattle.text.specs.declared.EndRead.{EndRead}
 use Rattle.text.specs.Text.{lf, space, headSizes, headE, headD, headS, longest}
-use Rattle.text.specs.Answer.{Answer, gives, refuses, onto}
+use Rattle.text.specs.Answer.{Answer, gives, refuses}
 
 -- how many lines end in these bytes
 unfoldable pub lfs : List ℕ → ℕ

@@ -20,7 +20,7 @@ use Rattle.text.specs.Text.{textOf, openingText, eventText, eventsText, longest
 use Rattle.text.specs.Answer.{Answer, gives, refuses, onto}
 use Rattle.text.specs.Laws.{onto-is, onto-onto, given-is}
 use Rattle.writing.specs.Writing.{isKind, eventIn, noText, found, eventsIn, openingIn, scheduleIn, fitting, textIn, intoRoom, writing}
-use Rattle.writing.specs.Parts.{lengthsIn, firstLine, linesIn, wholeText, measuring}
+use Rattle.writing.specs.Parts.{lengthsIn, linesIn, wholeText, measuring}
 
 pub kind-room : (words : List ℕ) (at kind n : ℕ) → isKind words at kind n ≡ true → at + n ≤ length words
 unfolding isKind

@@ -1,25 +1,23 @@
 -- From words to schedules that can be written, and back.
-use Prim.Native.Nat.{ℕ, zero, suc, _+_, _-_, _≤_, _<_}
+use Prim.Native.Nat.{ℕ, zero, suc, _+_, _-_, _≤_}
 use mathlib.Core.Path.{_≡_, refl, sym, ap, _∙_}
 use mathlib.Core.List.{List, [], _∷_, _++_, append-assoc, append-nil}
-use mathlib.Core.Bool.{Bool, true, false, cond, _&&_}
+use mathlib.Core.Bool.{Bool, true, false, _&&_}
 use native.Mathlib.Omega.{arith}
 use native.Mathlib.Nat.{add-zero}
 use lib.ListN.{length, getD, drop, length-drop}
 use lib.Seq.{getD-drop}
-use lib.Dec.{leb, eqb}
-use borrow.Author.Tests.{le-leb, leb-true, eq-eqb}
+use borrow.Author.Tests.{le-leb}
 use Rattle.text.specs.declared.Opening.{Opening}
 use Rattle.text.specs.declared.Event.{Event}
 use Rattle.text.specs.declared.Event.the-variants.{Enqueue, Dequeue, Steps}
-use Rattle.text.specs.declared.EventFound.{EventFound}
-use Rattle.text.specs.declared.EventFound.the-variants.{Found, Nothing}
+use Rattle.text.specs.declared.EventFound.the-variants.{Found}
 use Rattle.text.specs.Text.{textOf, longest}
-use Rattle.text.specs.Answer.{Answer, gives, refuses, onto}
-use Rattle.text.specs.Laws.{onto-is, given-is}
+use Rattle.text.specs.Answer.{gives}
+use Rattle.text.specs.Laws.{onto-is}
 use Rattle.schedule.specs.Writings.{after}
 use Rattle.schedule.specs.Meaning.{small, sound, allSound, Writable}
-use Rattle.writing.specs.Writing.{eventWords, eventsWords, wordsOf, isKind, eventIn, noText, found, eventsIn, openingIn, scheduleIn, fitting, textIn}
+use Rattle.writing.specs.Writing.{eventWords, eventsWords, wordsOf, isKind, eventIn, found, eventsIn, openingIn, scheduleIn, fitting, textIn}
 use Rattle.writing.specs.Laws.{Told, enqueued, dequeued, stepped, event-told, found-is, Saying, saying, Fitting, fitting-is}
 
 -- the words are 16-bit

@@ -4,7 +4,7 @@ use Prim.Native.Nat.{ℕ}
 use mathlib.Core.List.{List}
 use Rattle.text.specs.declared.Opening.{Opening}
 use Rattle.text.specs.declared.Event.{Event}
-use Rattle.text.specs.Answer.{Answer, gives}
+use Rattle.text.specs.Answer.{gives}
 use Rattle.schedule.specs.Whole.{scheduleReading}
 use Rattle.schedule.specs.OneMeaning.{reads-back, is-written}
 use Rattle.writing.specs.Writing.{wordsOf, scheduleIn, textIn}
