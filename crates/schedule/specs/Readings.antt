@@ -8,6 +8,7 @@ use lib.ListN.{length, drop}
 use lib.Seq.{drop-length}
 use lib.Dec.{leb, eqb}
 use borrow.Author.Tests.{leb-true, eqb-true}
+use Rattle.words.specs.Layout.{level, queue, node}
 use Rattle.decimals.specs.declared.FieldRead.{FieldRead}
 use Rattle.decimals.specs.declared.FieldRead.the-variants.{Number, Wrong}
 use Rattle.decimals.specs.Decimals.{fieldAt, fieldOf}
@@ -51,8 +52,8 @@ enqueue-reads text s at next e h k =
     let q = field-reads space text (a .1) (b .0) (b .1) (b .2) in
     let n = field-reads lf text (b .1) (c .0) (c .1) (c .2) in
     let to : c .1 ≡ next = cc in
-    let is : Enqueue (record { 0 = a .0 }) (record { 0 = b .0 }) (record { 0 = c .0 }) ≡ e = cc in
-    let r : Line (Enqueue (record { 0 = a .0 }) (record { 0 = b .0 }) (record { 0 = c .0 })) s (drop next text) =
+    let is : Enqueue (level (a .0)) (queue (b .0)) (node (c .0)) ≡ e = cc in
+    let r : Line (Enqueue (level (a .0)) (queue (b .0)) (node (c .0))) s (drop next text) =
     record { is = h ∙ simp (l .is, q .is, n .is, append-assoc, to); good = (l .small, q .small, n .small) }
     in
     rw is at r
@@ -66,8 +67,8 @@ dequeue-reads text s at next e h k =
     let l = field-reads space text at (a .0) (a .1) (a .2) in
     let q = field-reads lf text (a .1) (b .0) (b .1) (b .2) in
     let to : b .1 ≡ next = cc in
-    let is : Dequeue (record { 0 = a .0 }) (record { 0 = b .0 }) ≡ e = cc in
-    let r : Line (Dequeue (record { 0 = a .0 }) (record { 0 = b .0 })) s (drop next text) =
+    let is : Dequeue (level (a .0)) (queue (b .0)) ≡ e = cc in
+    let r : Line (Dequeue (level (a .0)) (queue (b .0))) s (drop next text) =
     record { is = h ∙ simp (l .is, q .is, append-assoc, to); good = (l .small, q .small) }
     in
     rw is at r

@@ -10,6 +10,7 @@ use lib.ListN.{length, getD, drop, length-append}
 use lib.Seq.{sets-eq}
 use lib.Dec.{leb, eqb}
 use borrow.Author.Tests.{leb-true, le-leb, lt-leb}
+use Rattle.words.specs.Layout.{level, queue, node}
 use Rattle.heads.specs.Put.{Put}
 use Rattle.text.specs.declared.Opening.{Opening}
 use Rattle.text.specs.declared.Event.{Event}
@@ -29,10 +30,10 @@ kind-room words at kind n h = leb-true (at + n) (length words) (and-eq-true-iff 
 -- an event's words, by their kind
 pub data Told (words : List ℕ) (at : ℕ) (e : Event) (next : ℕ) : Type 0 where
   enqueued : at + 4 ≤ length words → at + 4 ≡ next
-      → Enqueue (record { 0 = getD words (at + 1) 0 }) (record { 0 = getD words (at + 2) 0 }) (record { 0 = getD words (at + 3) 0 }) ≡ e
+      → Enqueue (level (getD words (at + 1) 0)) (queue (getD words (at + 2) 0)) (node (getD words (at + 3) 0)) ≡ e
       → Told words at e next
   dequeued : at + 3 ≤ length words → at + 3 ≡ next
-      → Dequeue (record { 0 = getD words (at + 1) 0 }) (record { 0 = getD words (at + 2) 0 }) ≡ e → Told words at e next
+      → Dequeue (level (getD words (at + 1) 0)) (queue (getD words (at + 2) 0)) ≡ e → Told words at e next
   stepped : at + 2 ≤ length words → at + 2 ≡ next → 1 ≤ getD words (at + 1) 0 → Steps (getD words (at + 1) 0) ≡ e → Told words at e next
 
 pub event-told : (words : List ℕ) (at next : ℕ) (e : Event) → eventIn words at ≡ Found e next → Told words at e next
@@ -44,8 +45,8 @@ event-told words at next e h =
     by : (x y z t : Bool) → (x ≡ true → at + 4 ≤ length words) → (y ≡ true → at + 3 ≤ length words) → (z ≡ true → at + 2 ≤ length words)
         → (t ≡ true → 1 ≤ getD words (at + 1) 0)
         → cond x
-        (Found (Enqueue (record { 0 = getD words (at + 1) 0 }) (record { 0 = getD words (at + 2) 0 }) (record { 0 = getD words (at + 3) 0 })) (at + 4))
-        (cond y (Found (Dequeue (record { 0 = getD words (at + 1) 0 }) (record { 0 = getD words (at + 2) 0 })) (at + 3))
+        (Found (Enqueue (level (getD words (at + 1) 0)) (queue (getD words (at + 2) 0)) (node (getD words (at + 3) 0))) (at + 4))
+        (cond y (Found (Dequeue (level (getD words (at + 1) 0)) (queue (getD words (at + 2) 0))) (at + 3))
         (cond (z && t) (Found (Steps (getD words (at + 1) 0)) (at + 2)) Nothing))
         ≡ Found e next
         → Told words at e next

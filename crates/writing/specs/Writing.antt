@@ -4,6 +4,7 @@ use mathlib.Core.List.{List, [], _∷_, _++_}
 use mathlib.Core.Bool.{Bool, cond, _&&_}
 use lib.ListN.{length, getD, drop}
 use lib.Dec.{leb, eqb}
+use Rattle.words.specs.Layout.{level, queue, node}
 use Rattle.text.specs.declared.Opening.{Opening}
 use Rattle.text.specs.declared.Event.{Event}
 use Rattle.text.specs.declared.Event.the-variants.{Enqueue, Dequeue, Steps}
@@ -34,9 +35,9 @@ isKind words at kind n = leb (at + n) (length words) && eqb (getD words at 0) ki
 unfoldable pub eventIn : List ℕ → ℕ → EventFound
 eventIn words at =
     cond (isKind words at 1 4)
-    (Found (Enqueue (record { 0 = getD words (at + 1) 0 }) (record { 0 = getD words (at + 2) 0 }) (record { 0 = getD words (at + 3) 0 })) (at + 4))
+    (Found (Enqueue (level (getD words (at + 1) 0)) (queue (getD words (at + 2) 0)) (node (getD words (at + 3) 0))) (at + 4))
     (cond (isKind words at 2 3)
-    (Found (Dequeue (record { 0 = getD words (at + 1) 0 }) (record { 0 = getD words (at + 2) 0 })) (at + 3))
+    (Found (Dequeue (level (getD words (at + 1) 0)) (queue (getD words (at + 2) 0))) (at + 3))
     (cond (isKind words at 3 2 && leb 1 (getD words (at + 1) 0)) (Found (Steps (getD words (at + 1) 0)) (at + 2)) Nothing))
 
 -- what is given has no text: the line that cannot be written
