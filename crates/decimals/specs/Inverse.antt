@@ -3,17 +3,16 @@ use Prim.Native.Nat.{ℕ, zero, suc, _+_, _-_, _*_, _/_, _%_, _≤_, _<_}
 use mathlib.Core.Path.{_≡_, refl, sym, ap, _∙_}
 use mathlib.Core.Logic.{_⊎_, inl, inr}
 use mathlib.Core.List.{List, [], _∷_, _++_, append-assoc}
-use mathlib.Core.Bool.{Bool, true, false, cond, _&&_}
+use mathlib.Core.Bool.{Bool, true, false, cond}
 use native.Mathlib.Omega.{arith}
 use native.Mathlib.Numerals.{add-one}
 use lib.ListN.{length, drop}
 use lib.Seq.{drop-drop}
-use lib.Dec.{ltb, leb, eqb}
+use lib.Dec.{ltb, eqb}
 use borrow.Author.Tests.{ltb-true, ltb-false, lt-ltb, le-ltb, le-leb, eq-eqb, eqb-true}
-use Rattle.decimals.specs.declared.FieldRead.{FieldRead}
 use Rattle.decimals.specs.declared.FieldRead.the-variants.{Number, Wrong}
 use Rattle.decimals.specs.Decimals.{widthOf, lastDigits, digitsOf, fieldOf, isDigit, withDigit, goesOn, restIn, fieldIn, fieldAt}
-use Rattle.decimals.specs.Laws.{digit-is, goes-on-is, length-field, IsDigit, Digit}
+use Rattle.decimals.specs.Laws.{digit-is, goes-on-is, length-field, Digit}
 
 below? : (a b : ℕ) → (a < b) ⊎ (b ≤ a)
 below? a b = by (ltb a b) refl
@@ -22,22 +21,26 @@ below? a b = by (ltb a b) refl
     by true e = inl (ltb-true a b e)
     by false e = inr (ltb-false a b e)
 
+-- two tests that hold and fail together are the same
+same-test : (a b c d : ℕ) → (a < b → c < d) → (b ≤ a → d ≤ c) → ltb a b ≡ ltb c d
+same-test a b c d f g = by (below? a b)
+  where
+    by : (a < b) ⊎ (b ≤ a) → ltb a b ≡ ltb c d
+    by (inl h) = lt-ltb a b h ∙ sym (lt-ltb c d (f h))
+    by (inr h) = le-ltb a b h ∙ sym (le-ltb c d (g h))
+
 -- one more digit is one more place
 width-more : (v w : ℕ) → 0 < v → v * 10 ≤ w → w ≤ v * 10 + 9 → w ≤ 65535 → widthOf w ≡ suc (widthOf v)
 unfolding widthOf
-width-more v w p l h top = by1 (below? v 10)
+width-more v w p l h top =
+    simp (le-ltb w 10 (omega arith), same-test w 100 v 10 (λ k. omega arith) (λ k. omega arith), same-test w 1000 v 100 (λ k. omega arith) (λ k. omega arith), same-test w 10000 v 1000 (λ k. omega arith) (λ k. omega arith), lt-ltb v 10000 (omega arith))
+    (by (ltb v 10) (ltb v 100) (ltb v 1000))
   where
-    by3 : 100 ≤ v → (v < 1000) ⊎ (1000 ≤ v) → widthOf w ≡ suc (widthOf v)
-    by3 f (inl q) = simp (le-ltb w 10 (omega arith), le-ltb w 100 (omega arith), le-ltb w 1000 (omega arith), lt-ltb w 10000 (omega arith), le-ltb v 10 (omega arith), le-ltb v 100 (omega arith), lt-ltb v 1000 q)
-    by3 f (inr q) = simp (le-ltb w 10 (omega arith), le-ltb w 100 (omega arith), le-ltb w 1000 (omega arith), le-ltb w 10000 (omega arith), le-ltb v 10 (omega arith), le-ltb v 100 (omega arith), le-ltb v 1000 q, lt-ltb v 10000 (omega arith))
-
-    by2 : 10 ≤ v → (v < 100) ⊎ (100 ≤ v) → widthOf w ≡ suc (widthOf v)
-    by2 f (inl q) = simp (le-ltb w 10 (omega arith), le-ltb w 100 (omega arith), lt-ltb w 1000 (omega arith), le-ltb v 10 f, lt-ltb v 100 q)
-    by2 f (inr q) = by3 q (below? v 1000)
-
-    by1 : (v < 10) ⊎ (10 ≤ v) → widthOf w ≡ suc (widthOf v)
-    by1 (inl q) = simp (le-ltb w 10 (omega arith), lt-ltb w 100 (omega arith), lt-ltb v 10 q)
-    by1 (inr q) = by2 q (below? v 100)
+    by : (a b c : Bool) → cond a 2 (cond b 3 (cond c 4 5)) ≡ suc (cond a 1 (cond b 2 (cond c 3 4)))
+    by true b c = refl
+    by false true c = refl
+    by false false true = refl
+    by false false false = refl
 
 digits-one : (n : ℕ) → n < 10 → digitsOf n ≡ (48 + n) ∷ []
 unfolding digitsOf lastDigits widthOf

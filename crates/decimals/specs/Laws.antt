@@ -1,28 +1,17 @@
 -- What the proofs of reading and writing numbers cite.
-use Prim.Native.Nat.{ℕ, zero, suc, _+_, _-_, _*_, _/_, _%_, _≤_, _<_}
-use mathlib.Core.Path.{_≡_, refl, sym, ap, _∙_}
-use mathlib.Core.List.{List, [], _∷_, _++_}
-use mathlib.Core.Bool.{Bool, true, false, cond, _&&_}
+use Prim.Native.Nat.{ℕ, zero, suc, _+_, _-_, _/_, _%_, _≤_, _<_}
+use mathlib.Core.Path.{_≡_, refl, ap, _∙_}
+use mathlib.Core.List.{List, [], _∷_}
+use mathlib.Core.Bool.{Bool, true, false, cond, _&&_, and-eq-true-iff}
 use native.Mathlib.Omega.{arith}
-use native.Mathlib.Nat.{add-suc, add-zero, suc-add}
 use native.Mathlib.Numerals.{add-one, sub-one}
-use lib.ListN.{length, drop, set, getD, length-append, drop-of-length-le}
+use lib.ListN.{length, set, getD, length-append, drop-of-length-le}
 use lib.Seq.{sets, set-comm, drop-cons}
 use lib.Dec.{ltb, leb, eqb}
 use borrow.Author.Tests.{ltb-true, leb-true}
 use Rattle.heads.specs.Laws.{sets-append}
-use Rattle.decimals.specs.declared.FieldRead.{FieldRead}
 use Rattle.decimals.specs.declared.FieldRead.the-variants.{Number, Wrong}
 use Rattle.decimals.specs.Decimals.{widthOf, lastDigits, digitsOf, fieldOf, isDigit, withDigit, goesOn, restIn, restOf, fieldIn, fieldAt}
-
-pub and-first : (a b : Bool) → (a && b) ≡ true → a ≡ true
-and-first true b h = refl
-and-first false b h = h
-
-pub and-second : (a b : Bool) → (a && b) ≡ true → b ≡ true
-and-second true b h = h
-and-second false true h = refl
-and-second false false h = h
 
 -- a store past a run of stores may come first
 pub sets-set : (r : List ℕ) (p i a : ℕ) (xs : List ℕ) → p + length xs ≤ i → set (sets r p xs) i a ≡ sets (set r i a) p xs
@@ -84,22 +73,16 @@ pub record IsDigit (b : ℕ) : Type 0 where
 
 pub digit-is : (b : ℕ) → isDigit b ≡ true → IsDigit b
 unfolding isDigit
-digit-is b h = record {
-  low = leb-true 48 b (and-first (leb 48 b) (leb b 57) h);
-  high = leb-true b 57 (and-second (leb 48 b) (leb b 57) h);
-}
+digit-is b h =
+    let two = and-eq-true-iff (leb 48 b) (leb b 57) .0 h in record { low = leb-true 48 b (two .0); high = leb-true b 57 (two .1) }
 
 pub goes-on-is : (n b : ℕ) → goesOn n b ≡ true → Digit n b
 unfolding goesOn
 goes-on-is n b h =
-    let two = and-first (isDigit b && ltb 0 n) (leb (withDigit n b) 65535) h in
-    let d = digit-is b (and-first (isDigit b) (ltb 0 n) two) in
-    record {
-      low = d .low;
-      high = d .high;
-      after = ltb-true 0 n (and-second (isDigit b) (ltb 0 n) two);
-      fits = leb-true (withDigit n b) 65535 (and-second (isDigit b && ltb 0 n) (leb (withDigit n b) 65535) h);
-    }
+    let three = and-eq-true-iff (isDigit b && ltb 0 n) (leb (withDigit n b) 65535) .0 h in
+    let two = and-eq-true-iff (isDigit b) (ltb 0 n) .0 (three .0) in
+    let d = digit-is b (two .0) in
+    record { low = d .low; high = d .high; after = ltb-true 0 n (two .1); fits = leb-true (withDigit n b) 65535 (three .1) }
 
 pub field-cons : (end : ℕ) (text : List ℕ) (at : ℕ) → at < length text
     → fieldAt end text at ≡ cond (isDigit (getD text at 0)) (restOf end text (getD text at 0 - 48) (at + 1)) Wrong

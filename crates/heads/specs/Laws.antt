@@ -9,7 +9,7 @@ use native.Mathlib.Numerals.{add-one}
 use lib.ListN.{length, length-append, drop, getD, set, drop-of-length-le}
 use lib.Seq.{sets, drop-cons, drop-drop}
 use lib.Dec.{eqb}
-use borrow.Author.Tests.{eq-eqb, ne-eqb, eqb-true}
+use borrow.Author.Tests.{eq-eqb, eqb-true}
 use Rattle.heads.specs.Heads.{begins, standsAt}
 use Rattle.heads.specs.Put.{Put, Putting}
 

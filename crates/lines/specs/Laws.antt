@@ -1,18 +1,15 @@
 -- What the proofs of measuring and writing lines cite.
-use Prim.Native.Nat.{ℕ, _+_, _≤_}
-use mathlib.Core.Path.{_≡_, refl, sym, ap, _∙_}
-use mathlib.Core.List.{List, [], _∷_, _++_}
+use Prim.Native.Nat.{ℕ, _+_}
+use mathlib.Core.Path.{_≡_}
 use native.Mathlib.Omega.{arith}
 use lib.ListN.{length, length-append}
 use Rattle.decimals.specs.Decimals.{fieldOf}
-use Rattle.decimals.specs.Laws.{length-field}
 use Rattle.words.specs.declared.Level.{Level}
 use Rattle.words.specs.declared.Queue.{Queue}
 use Rattle.words.specs.declared.Node.{Node}
 use Rattle.text.specs.declared.Opening.{Opening}
-use Rattle.text.specs.declared.Event.{Event}
 use Rattle.text.specs.declared.Event.the-variants.{Enqueue, Dequeue, Steps}
-use Rattle.text.specs.Text.{lf, space, headE, headD, headS, eventText, openingText}
+use Rattle.text.specs.Text.{lf, space, eventText, openingText}
 
 pub enqueue-length : (l : Level) (q : Queue) (n : Node) → length (eventText (Enqueue l q n))
     ≡ 2 + (length (fieldOf (l .0) space) + (length (fieldOf (q .0) space) + length (fieldOf (n .0) lf)))

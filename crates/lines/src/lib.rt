@@ -6,14 +6,12 @@ ghost use Rattle.heads.specs.Put.{Put};
 ghost use Rattle.text.specs.Text.{eventText, openingText};
 ghost use Rattle.decimals.specs.Decimals.{widthOf};
 use text::Event;
+use text::LF;
 use text::Opening;
+use text::SPACE;
 use words::Level;
 use words::Node;
 use words::Queue;
-
-const SPACE: u8 = 32;
-
-const LF: u8 = 10;
 
 // How many bytes a number and the byte after it take.
 fn field_length(n: u16) -> usize

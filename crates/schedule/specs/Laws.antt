@@ -1,11 +1,10 @@
 -- What the proofs of reading a whole text cite.
-use Prim.Native.Nat.{ℕ, zero, suc, _+_, _-_, _≤_, _<_}
-use mathlib.Core.Path.{_≡_, refl, sym, ap, _∙_}
-use mathlib.Core.List.{List, [], _∷_}
+use Prim.Native.Nat.{ℕ, zero, suc, _-_, _≤_, _<_}
+use mathlib.Core.Path.{_≡_, refl}
+use mathlib.Core.List.{List}
 use native.Mathlib.Omega.{arith}
 use native.Mathlib.Numerals.{sub-one}
-use Rattle.text.specs.declared.Event.{Event}
-use Rattle.text.specs.Answer.{Answer, gives, refuses, onto}
+use Rattle.text.specs.Answer.{onto}
 use Rattle.text.specs.Reading.{eventReading, endReading}
 use Rattle.text.specs.Laws.{onto-onto}
 use Rattle.schedule.specs.Whole.{eventsReading, restReading}

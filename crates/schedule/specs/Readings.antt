@@ -1,17 +1,17 @@
 -- From a reading to the bytes that were read.
-use Prim.Native.Nat.{ℕ, zero, suc, _+_, _-_, _≤_, _<_}
-use mathlib.Core.Path.{_≡_, refl, sym, ap, _∙_}
+use Prim.Native.Nat.{ℕ, zero, suc, _+_, _-_, _≤_}
+use mathlib.Core.Path.{_≡_, refl, ap, _∙_}
 use mathlib.Core.List.{List, [], _∷_, _++_, append-assoc, append-nil}
-use mathlib.Core.Bool.{Bool, true, false, cond, _&&_, _||_}
+use mathlib.Core.Bool.{Bool, true, false, cond, _&&_, and-eq-true-iff}
 use native.Mathlib.Omega.{arith}
 use lib.ListN.{length, drop}
 use lib.Seq.{drop-length}
 use lib.Dec.{leb, eqb}
 use borrow.Author.Tests.{leb-true, eqb-true}
+use Rattle.words.specs.Layout.{level, queue, node}
 use Rattle.decimals.specs.declared.FieldRead.{FieldRead}
 use Rattle.decimals.specs.declared.FieldRead.the-variants.{Number, Wrong}
 use Rattle.decimals.specs.Decimals.{fieldAt, fieldOf}
-use Rattle.decimals.specs.Laws.{and-first, and-second}
 use Rattle.decimals.specs.Inverse.{field-reads}
 use Rattle.heads.specs.Heads.{standsAt}
 use Rattle.heads.specs.Laws.{stands-is}
@@ -21,7 +21,7 @@ use Rattle.text.specs.declared.Event.the-variants.{Enqueue, Dequeue, Steps}
 use Rattle.text.specs.declared.EventFound.{EventFound}
 use Rattle.text.specs.declared.EventFound.the-variants.{Found, Nothing}
 use Rattle.text.specs.Text.{lf, space, headSizes, headE, headD, headS, longest, openingText, eventText, eventsText, textOf}
-use Rattle.text.specs.Answer.{Answer, gives, refuses, onto}
+use Rattle.text.specs.Answer.{Answer, gives}
 use Rattle.text.specs.Reading.{with, enqueueIn, dequeueIn, stepsIn, eventIn, found, lineStarts, wrongAt, numberLine, sizesReading, eventReading, endReading}
 use Rattle.text.specs.Laws.{onto-is, given-is}
 use Rattle.schedule.specs.Meaning.{small, sound, allSound, Writable}
@@ -52,8 +52,8 @@ enqueue-reads text s at next e h k =
     let q = field-reads space text (a .1) (b .0) (b .1) (b .2) in
     let n = field-reads lf text (b .1) (c .0) (c .1) (c .2) in
     let to : c .1 ≡ next = cc in
-    let is : Enqueue (record { 0 = a .0 }) (record { 0 = b .0 }) (record { 0 = c .0 }) ≡ e = cc in
-    let r : Line (Enqueue (record { 0 = a .0 }) (record { 0 = b .0 }) (record { 0 = c .0 })) s (drop next text) =
+    let is : Enqueue (level (a .0)) (queue (b .0)) (node (c .0)) ≡ e = cc in
+    let r : Line (Enqueue (level (a .0)) (queue (b .0)) (node (c .0))) s (drop next text) =
     record { is = h ∙ simp (l .is, q .is, n .is, append-assoc, to); good = (l .small, q .small, n .small) }
     in
     rw is at r
@@ -67,8 +67,8 @@ dequeue-reads text s at next e h k =
     let l = field-reads space text at (a .0) (a .1) (a .2) in
     let q = field-reads lf text (a .1) (b .0) (b .1) (b .2) in
     let to : b .1 ≡ next = cc in
-    let is : Dequeue (record { 0 = a .0 }) (record { 0 = b .0 }) ≡ e = cc in
-    let r : Line (Dequeue (record { 0 = a .0 }) (record { 0 = b .0 })) s (drop next text) =
+    let is : Dequeue (level (a .0)) (queue (b .0)) ≡ e = cc in
+    let r : Line (Dequeue (level (a .0)) (queue (b .0))) s (drop next text) =
     record { is = h ∙ simp (l .is, q .is, append-assoc, to); good = (l .small, q .small) }
     in
     rw is at r
@@ -176,7 +176,7 @@ sizes-answer text next o h =
     let x = given-is (record { levels = a .0; queues = b .0; nodes = c .0; events = d .0 }) o (d .1) next (d .3) in
     let r : Opens (record { levels = a .0; queues = b .0; nodes = c .0; events = d .0 }) text (drop (d .1) text) =
     record {
-      is = stands-is headSizes text 0 (and-second (lineStarts text 0) (standsAt headSizes text 0) (z .0))
+      is = stands-is headSizes text 0 (and-eq-true-iff (lineStarts text 0) (standsAt headSizes text 0) .0 (z .0) .1)
           ∙ simp (l .is, q .is, n .is, e .is, append-assoc);
       levels = l .small;
       queues = q .small;
@@ -194,10 +194,10 @@ end-answers : (text : List ℕ) (place : ℕ) → endReading text place ≡ give
 unfolding endReading lineStarts
 end-answers text place h =
     let z = cond-is (lineStarts text place && eqb place (length text)) _ text place tt h in
+    let two = and-eq-true-iff (lineStarts text place) (eqb place (length text)) .0 (z .0) in
     record {
-      short = leb-true (length text) longest
-          (and-first (leb (length text) longest) _ (and-first (lineStarts text place) (eqb place (length text)) (z .0)));
-      at = eqb-true place (length text) (and-second (lineStarts text place) (eqb place (length text)) (z .0));
+      short = leb-true (length text) longest (and-eq-true-iff (leb (length text) longest) _ .0 (two .0) .0);
+      at = eqb-true place (length text) (two .1);
     }
 
 -- a whole text that was read is the text of what was read

@@ -1,12 +1,11 @@
 -- From the text of a schedule to what is read there.
-use Prim.Native.Nat.{ℕ, zero, suc, _+_, _-_, _≤_, _<_}
+use Prim.Native.Nat.{ℕ, _+_, _-_, _≤_}
 use mathlib.Core.Path.{_≡_, refl, sym, ap, _∙_}
 use mathlib.Core.List.{List, [], _∷_, _++_, append-assoc, append-nil}
-use mathlib.Core.Bool.{Bool, true, false, cond, _&&_, _||_}
+use mathlib.Core.Bool.{Bool, true, false, _||_}
 use native.Mathlib.Omega.{arith}
 use lib.ListN.{length, drop, getD, length-drop}
 use lib.Seq.{drop-drop, drop-append-seam, getD-drop, getD-at}
-use lib.Dec.{leb, eqb}
 use borrow.Author.Tests.{le-leb, eq-eqb}
 use Rattle.decimals.specs.declared.FieldRead.the-variants.{Number}
 use Rattle.decimals.specs.Decimals.{fieldAt, fieldOf, digitsOf, widthOf, isDigit}
@@ -17,15 +16,16 @@ use Rattle.heads.specs.Laws.{stands-own}
 use Rattle.text.specs.declared.Opening.{Opening}
 use Rattle.text.specs.declared.Event.{Event}
 use Rattle.text.specs.declared.Event.the-variants.{Enqueue, Dequeue, Steps}
-use Rattle.text.specs.declared.EventFound.the-variants.{Found, Nothing}
+use Rattle.text.specs.declared.EventFound.the-variants.{Found}
 use Rattle.text.specs.Text.{lf, space, headSizes, headE, headD, headS, longest, openingText, eventText, eventsText, textOf}
-use Rattle.text.specs.Answer.{Answer, gives, refuses, onto}
+use Rattle.text.specs.Answer.{gives}
 use Rattle.text.specs.Reading.{with, enqueueIn, dequeueIn, stepsIn, eventIn, found, lineStarts, numberLine, sizesReading, eventReading, endReading}
 use Rattle.text.specs.Laws.{starts-in}
 use Rattle.schedule.specs.Meaning.{small, sound, allSound, Writable}
 use Rattle.schedule.specs.Whole.{eventsReading, scheduleReading}
 
-after : (text xs rest : List ℕ) (at : ℕ) → drop at text ≡ xs ++ rest → drop (at + length xs) text ≡ rest
+-- what follows a part that stands at a place
+pub after : (text xs rest : List ℕ) (at : ℕ) → drop at text ≡ xs ++ rest → drop (at + length xs) text ≡ rest
 after text xs rest at e = sym (drop-drop (length xs) at text) ∙ ap (drop (length xs)) e ∙ drop-append-seam xs rest
 
 -- a field is read, with the next place, the bytes there, and the byte before it

@@ -1,10 +1,9 @@
 -- What the proofs of reading cite.
-use Prim.Native.Nat.{ℕ, zero, suc, _+_, _-_, _≤_, _<_}
-use mathlib.Core.Path.{_≡_, refl, sym, ap, _∙_}
+use Prim.Native.Nat.{ℕ, _+_, _-_, _≤_, _<_}
+use mathlib.Core.Path.{_≡_, refl, ap}
 use mathlib.Core.List.{List, [], _∷_, _++_}
 use mathlib.Core.Bool.{Bool, true, false, cond, _&&_, _||_, false≢true}
 use native.Mathlib.Omega.{arith}
-use native.Mathlib.Nat.{add-assoc}
 use native.Mathlib.Numerals.{add-one}
 use lib.ListN.{length, getD, take, List·getD-eq-default}
 use lib.Seq.{take-suc, take-all}
@@ -21,14 +20,6 @@ lfs-append (b ∷ s) t = let ih = lfs-append s t in omega arith
 
 pub lfs-more : (text : List ℕ) (i : ℕ) → i < length text → lfs (take (i + 1) text) ≡ lfs (take i text) + lfs (getD text i 0 ∷ [])
 lfs-more text i h = rw (add-one, take-suc text i 0) (lfs-append (take i text) (getD text i 0 ∷ []))
-
-pub lfs-one : (b : ℕ) → lfs (b ∷ []) ≤ 1
-unfolding lfs
-lfs-one b = by (eqb b lf)
-  where
-    by : (t : Bool) → cond t 1 0 + 0 ≤ 1
-    by true = omega arith
-    by false = omega arith
 
 pub lfs-past : (text : List ℕ) (i j : ℕ) → length text ≤ i → i ≤ j → lfs (take i text) ≡ lfs (take j text)
 lfs-past text i j h k = let p : length text ≤ j = omega arith in simp (take-all i text h, take-all j text p)

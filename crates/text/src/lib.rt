@@ -63,11 +63,11 @@ pub enum EventFound {
     Nothing,
 }
 
-const SPACE: u8 = 32;
+pub const SPACE: u8 = 32;
 
-const LF: u8 = 10;
+pub const LF: u8 = 10;
 
-const LONGEST: usize = 65536;
+pub const LONGEST: usize = 65536;
 
 fn lf_in(b: u8) -> usize
     ensures { λ r. ⌜ (r ≡ lfs (b ∷ [])) × (r ≤ 1) ⌝ }

@@ -2,7 +2,7 @@
 use Prim.Native.Nat.{ℕ, zero, suc, _+_, _-_, _≤_, _<_}
 use mathlib.Core.Path.{_≡_, refl, sym, ap, _∙_}
 use mathlib.Core.List.{List, [], _∷_, _++_}
-use mathlib.Core.Bool.{Bool, true, false, cond, _&&_}
+use mathlib.Core.Bool.{Bool, true, false, cond, _&&_, and-eq-true-iff}
 use native.Mathlib.Omega.{arith}
 use native.Mathlib.Nat.{zero-add, add-zero, add-assoc}
 use native.Mathlib.Numerals.{add-one, sub-one}
@@ -10,8 +10,8 @@ use lib.ListN.{length, getD, drop, length-append}
 use lib.Seq.{sets-eq}
 use lib.Dec.{leb, eqb}
 use borrow.Author.Tests.{leb-true, le-leb, lt-leb}
+use Rattle.words.specs.Layout.{level, queue, node}
 use Rattle.heads.specs.Put.{Put}
-use Rattle.decimals.specs.Laws.{and-first, and-second}
 use Rattle.text.specs.declared.Opening.{Opening}
 use Rattle.text.specs.declared.Event.{Event}
 use Rattle.text.specs.declared.Event.the-variants.{Enqueue, Dequeue, Steps}
@@ -21,30 +21,49 @@ use Rattle.text.specs.Text.{textOf, openingText, eventText, eventsText, longest
 use Rattle.text.specs.Answer.{Answer, gives, refuses, onto}
 use Rattle.text.specs.Laws.{onto-is, onto-onto, given-is}
 use Rattle.writing.specs.Writing.{isKind, eventIn, noText, found, eventsIn, openingIn, scheduleIn, fitting, textIn, intoRoom, writing}
-use Rattle.writing.specs.Parts.{lengthsIn, firstLine, linesIn, wholeText, measuring}
+use Rattle.writing.specs.Parts.{lengthsIn, linesIn, wholeText, measuring}
 
 pub kind-room : (words : List ℕ) (at kind n : ℕ) → isKind words at kind n ≡ true → at + n ≤ length words
 unfolding isKind
-kind-room words at kind n h = leb-true (at + n) (length words) (and-first (leb (at + n) (length words)) (eqb (getD words at 0) kind) h)
+kind-room words at kind n h = leb-true (at + n) (length words) (and-eq-true-iff (leb (at + n) (length words)) (eqb (getD words at 0) kind) .0 h .0)
+
+-- an event's words, by their kind
+pub data Told (words : List ℕ) (at : ℕ) (e : Event) (next : ℕ) : Type 0 where
+  enqueued : at + 4 ≤ length words → at + 4 ≡ next
+      → Enqueue (level (getD words (at + 1) 0)) (queue (getD words (at + 2) 0)) (node (getD words (at + 3) 0)) ≡ e
+      → Told words at e next
+  dequeued : at + 3 ≤ length words → at + 3 ≡ next
+      → Dequeue (level (getD words (at + 1) 0)) (queue (getD words (at + 2) 0)) ≡ e → Told words at e next
+  stepped : at + 2 ≤ length words → at + 2 ≡ next → 1 ≤ getD words (at + 1) 0 → Steps (getD words (at + 1) 0) ≡ e → Told words at e next
+
+pub event-told : (words : List ℕ) (at next : ℕ) (e : Event) → eventIn words at ≡ Found e next → Told words at e next
+unfolding eventIn
+event-told words at next e h =
+    by (isKind words at 1 4) (isKind words at 2 3) (isKind words at 3 2) (leb 1 (getD words (at + 1) 0))
+    (kind-room words at 1 4) (kind-room words at 2 3) (kind-room words at 3 2) (leb-true 1 (getD words (at + 1) 0)) h
+  where
+    by : (x y z t : Bool) → (x ≡ true → at + 4 ≤ length words) → (y ≡ true → at + 3 ≤ length words) → (z ≡ true → at + 2 ≤ length words)
+        → (t ≡ true → 1 ≤ getD words (at + 1) 0)
+        → cond x
+        (Found (Enqueue (level (getD words (at + 1) 0)) (queue (getD words (at + 2) 0)) (node (getD words (at + 3) 0))) (at + 4))
+        (cond y (Found (Dequeue (level (getD words (at + 1) 0)) (queue (getD words (at + 2) 0))) (at + 3))
+        (cond (z && t) (Found (Steps (getD words (at + 1) 0)) (at + 2)) Nothing))
+        ≡ Found e next
+        → Told words at e next
+    by true y z t f g h i k = enqueued (f refl) (cc) (cc)
+    by false true z t f g h i k = dequeued (g refl) (cc) (cc)
+    by false false true true f g h i k = stepped (h refl) (cc) (i refl) (cc)
+    by false false true false f g h i k = let z : _≡_ {A = ℕ} 0 1 = cc in absurd (omega arith)
+    by false false false t f g h i k = let z : _≡_ {A = ℕ} 0 1 = cc in absurd (omega arith)
 
 -- the words of an event are among the words
 pub event-on : (words : List ℕ) (at next : ℕ) (e : Event) → eventIn words at ≡ Found e next → next ≤ length words
-unfolding eventIn
-event-on words at next e h =
-    by (isKind words at 1 4) (isKind words at 2 3) (isKind words at 3 2) (leb 1 (getD words (at + 1) 0))
-    (kind-room words at 1 4) (kind-room words at 2 3) (kind-room words at 3 2)
-    (Enqueue (record { 0 = getD words (at + 1) 0 }) (record { 0 = getD words (at + 2) 0 }) (record { 0 = getD words (at + 3) 0 }))
-    (Dequeue (record { 0 = getD words (at + 1) 0 }) (record { 0 = getD words (at + 2) 0 }))
-    (Steps (getD words (at + 1) 0)) h
+event-on words at next e h = by (event-told words at next e h)
   where
-    by : (x y z t : Bool) → (x ≡ true → at + 4 ≤ length words) → (y ≡ true → at + 3 ≤ length words) → (z ≡ true → at + 2 ≤ length words)
-        → (a b c : Event) → cond x (Found a (at + 4)) (cond y (Found b (at + 3)) (cond (z && t) (Found c (at + 2)) Nothing)) ≡ Found e next
-        → next ≤ length words
-    by true y z t f g h a b c k = let n : at + 4 ≡ next = cc in omega (arith, f refl)
-    by false true z t f g h a b c k = let n : at + 3 ≡ next = cc in omega (arith, g refl)
-    by false false true true f g h a b c k = let n : at + 2 ≡ next = cc in omega (arith, h refl)
-    by false false true false f g h a b c k = let z : _≡_ {A = ℕ} 0 1 = cc in absurd (omega arith)
-    by false false false t f g h a b c k = let z : _≡_ {A = ℕ} 0 1 = cc in absurd (omega arith)
+    by : Told words at e next → next ≤ length words
+    by (enqueued r n k) = omega arith
+    by (dequeued r n k) = omega arith
+    by (stepped r n c k) = omega arith
 
 pub lengths-more : (n k line : ℕ) (words : List ℕ) (at next : ℕ) (e : Event) → 0 < k → eventIn words at ≡ Found e next
     → lengthsIn n k line words at ≡ lengthsIn (n + length (eventText e)) (k - 1) (line + 1) words next
@@ -80,21 +99,21 @@ unfolding linesIn
 lines-none zero words at h = refl
 lines-none (suc k) words at h = absurd (omega arith)
 
+pub found-is : (line : ℕ) (r : EventFound) (e : Event) (next : ℕ) → found line r ≡ gives (e, next) → r ≡ Found e next
+unfolding found noText
+found-is line (Found d p) e next h = let x = given-is d e p next h in rw (x .0, x .1)
+found-is line Nothing e next h = let z : _≡_ {A = ℕ} 0 1 = cc in absurd (omega arith)
+
 -- the lines are those of the events
 told-lines : (k line : ℕ) (words : List ℕ) (at : ℕ) (es : List Event) → eventsIn k line words at ≡ gives es → linesIn k words at ≡ eventsText es
-unfolding eventsIn linesIn eventsText found noText
+unfolding eventsIn linesIn eventsText
 told-lines zero line words at es h = let e : [] ≡ es = cc in rw (← e)
 told-lines (suc k) line words at es h =
     let a = onto-is (found line (eventIn words at)) _ es h in
     let b = onto-is (eventsIn k (suc line) words (a .0 .1)) _ es (a .2) in
     let e : a .0 .0 ∷ b .0 ≡ es = cc in
-    by (eventIn words at) (a .0 .0) (a .0 .1) (b .0) (a .1) (told-lines k (suc line) words (a .0 .1) (b .0) (b .1)) e
-  where
-    by : (r : EventFound) (x : Event) (next : ℕ) (xs : List Event) → found line r ≡ gives (x, next) → linesIn k words next ≡ eventsText xs → x ∷ xs ≡ es
-        → firstLine r (linesIn k words) ≡ eventsText es
-    by (Found d p) x next xs f g e =
-        let z = given-is d x p next f in rw (← e, z .0, z .1, g)
-    by Nothing x next xs f g e = let z : _≡_ {A = ℕ} 0 1 = cc in absurd (omega arith)
+    simp (found-is line (eventIn words at) (a .0 .0) (a .0 .1) (a .1), told-lines k (suc line) words (a .0 .1) (b .0) (b .1))
+    (ap eventsText e)
 
 pub lines-room : (k : ℕ) (words : List ℕ) (at next : ℕ) (e : Event) → 0 < k → eventIn words at ≡ Found e next
     → length (eventText e) ≤ length (linesIn k words at)
@@ -130,46 +149,57 @@ pub measuring-short : (words : List ℕ) → length words < 4 → measuring word
 unfolding measuring textIn scheduleIn noText
 measuring-short words h = rw (lt-leb 4 (length words) h)
 
+-- what words that stand for a schedule say
+pub record Saying (words : List ℕ) (o : Opening) (es : List Event) : Type 0 where
+  pub enough : 4 ≤ length words
+  pub opening : openingIn words ≡ o
+  pub events : eventsIn (openingIn words .events) 6 words 4 ≡ gives es
+
+pub saying : (words : List ℕ) (o : Opening) (es : List Event) → scheduleIn words ≡ gives (o, es) → Saying words o es
+unfolding scheduleIn noText
+saying words o es h = by (leb 4 (length words)) refl h
+  where
+    by : (b : Bool) → leb 4 (length words) ≡ b
+        → cond b (onto {B = Opening × List Event} (eventsIn (openingIn words .events) 6 words 4) (λ es. gives (openingIn words, es)))
+        (noText (length words + 2))
+        ≡ gives (o, es)
+        → Saying words o es
+    by true f k =
+        let a = onto-is (eventsIn (openingIn words .events) 6 words 4) _ (o, es) k in
+        let x = given-is (openingIn words) o (a .0) es (a .2) in
+        record { enough = leb-true 4 (length words) f; opening = x .0; events = a .1 ∙ ap (λ (l : List Event). gives l) (x .1) }
+    by false f k = let z : _≡_ {A = ℕ} 0 1 = cc in absurd (omega arith)
+
+pub record Fitting (s t : List ℕ) : Type 0 where
+  pub is : s ≡ t
+  pub short : length s ≤ longest
+
+pub fitting-is : (s t : List ℕ) → fitting s ≡ gives t → Fitting s t
+unfolding fitting noText
+fitting-is s t h = by (leb (length s) longest) refl h
+  where
+    by : (b : Bool) → leb (length s) longest ≡ b → cond b (gives s) (noText 0) ≡ gives t → Fitting s t
+    by true f h = record { is = cc; short = leb-true (length s) longest f }
+    by false f h = let z : _≡_ {A = ℕ} 0 1 = cc in absurd (omega arith)
+
 -- what a length that was measured says
 pub record Ready (words : List ℕ) (n : ℕ) : Type 0 where
   pub enough : 4 ≤ length words
   pub text : textIn words ≡ gives (wholeText words)
   pub long : length (wholeText words) ≡ n
 
-fitting-is : (s t : List ℕ) → fitting s ≡ gives t → s ≡ t
-unfolding fitting noText
-fitting-is s t h = by (leb (length s) longest) h
-  where
-    by : (b : Bool) → cond b (gives s) (noText 0) ≡ gives t → s ≡ t
-    by true h = cc
-    by false h = let z : _≡_ {A = ℕ} 0 1 = cc in absurd (omega arith)
-
-schedule-is : (words : List ℕ) (o : Opening) (es : List Event) → scheduleIn words ≡ gives (o, es)
-    → (4 ≤ length words) × (wholeText words ≡ textOf o es)
-unfolding scheduleIn noText wholeText textOf
-schedule-is words o es h = by (leb 4 (length words)) refl h
-  where
-    by : (b : Bool) → leb 4 (length words) ≡ b
-        → cond b (onto {B = Opening × List Event} (eventsIn (openingIn words .events) 6 words 4) (λ es. gives (openingIn words, es))) (noText (length words + 2)) ≡ gives (o, es)
-        → (4 ≤ length words) × (wholeText words ≡ textOf o es)
-    by true f k =
-        let a = onto-is (eventsIn (openingIn words .events) 6 words 4) _ (o, es) k in
-        let x = given-is (openingIn words) o (a .0) es (a .2) in (
-          leb-true 4 (length words) f,
-          rw (told-lines (openingIn words .events) 6 words 4 (a .0) (a .1))
-              (ap (λ (p : Opening). openingText p ++ eventsText (a .0)) (x .0) ∙ ap (λ (l : List Event). openingText o ++ eventsText l) (x .1)),
-        )
-    by false f k = let z : _≡_ {A = ℕ} 0 1 = cc in absurd (omega arith)
-
 pub ready : (words : List ℕ) (n : ℕ) → measuring words ≡ gives n → Ready words n
-unfolding measuring textIn
+unfolding measuring textIn wholeText textOf
 ready words n h =
     let a = onto-is (textIn words) _ n h in
     let b = onto-is (scheduleIn words) _ (a .0) (a .1) in
-    let s = schedule-is words (b .0 .0) (b .0 .1) (b .1) in
-    let same : wholeText words ≡ a .0 = s .1 ∙ fitting-is (textOf (b .0 .0) (b .0 .1)) (a .0) (b .2) in
+    let s = saying words (b .0 .0) (b .0 .1) (b .1) in
+    let same : wholeText words ≡ a .0 =
+    rw (told-lines (openingIn words .events) 6 words 4 (b .0 .1) (s .events))
+    (ap (λ (p : Opening). openingText p ++ eventsText (b .0 .1)) (s .opening) ∙ fitting-is (textOf (b .0 .0) (b .0 .1)) (a .0) (b .2) .is)
+    in
     let long : length (a .0) ≡ n = cc in
-    record { enough = s .0; text = a .1 ∙ rw same refl; long = rw same long }
+    record { enough = s .enough; text = a .1 ∙ rw same refl; long = rw same long }
 
 pub whole-is : (words : List ℕ) (o : Opening) → o ≡ openingIn words → openingText o ++ linesIn (o .events) words 4 ≡ wholeText words
 unfolding wholeText

@@ -4,6 +4,7 @@ use mathlib.Core.List.{List, [], _∷_, _++_}
 use mathlib.Core.Bool.{Bool, cond, _&&_}
 use lib.ListN.{length, getD, drop}
 use lib.Dec.{leb, eqb}
+use Rattle.words.specs.Layout.{level, queue, node}
 use Rattle.text.specs.declared.Opening.{Opening}
 use Rattle.text.specs.declared.Event.{Event}
 use Rattle.text.specs.declared.Event.the-variants.{Enqueue, Dequeue, Steps}
@@ -13,17 +14,30 @@ use Rattle.text.specs.Text.{textOf, longest}
 use Rattle.text.specs.Answer.{Answer, gives, refuses, onto}
 use Rattle.writing.specs.declared.Written.{Written}
 
+-- a schedule's words: an event is 1 level queue node, 2 level queue, or 3 count
+unfoldable pub eventWords : Event → List ℕ
+eventWords (Enqueue l q n) = 1 ∷ l .0 ∷ q .0 ∷ n .0 ∷ []
+eventWords (Dequeue l q) = 2 ∷ l .0 ∷ q .0 ∷ []
+eventWords (Steps count) = 3 ∷ count ∷ []
+
+unfoldable pub eventsWords : List Event → List ℕ
+eventsWords [] = []
+eventsWords (e ∷ es) = eventWords e ++ eventsWords es
+
+unfoldable pub wordsOf : Opening → List Event → List ℕ
+wordsOf o es = o .levels ∷ o .queues ∷ o .nodes ∷ o .events ∷ eventsWords es
+
 -- the words at a place are n words of this kind
 unfoldable pub isKind : List ℕ → ℕ → ℕ → ℕ → Bool
 isKind words at kind n = leb (at + n) (length words) && eqb (getD words at 0) kind
 
--- 1 level queue node, 2 level queue, or 3 count with count 1 or more; and the place after these words
+-- the event at a place, S with a count of 1 or more, and the place after its words
 unfoldable pub eventIn : List ℕ → ℕ → EventFound
 eventIn words at =
     cond (isKind words at 1 4)
-    (Found (Enqueue (record { 0 = getD words (at + 1) 0 }) (record { 0 = getD words (at + 2) 0 }) (record { 0 = getD words (at + 3) 0 })) (at + 4))
+    (Found (Enqueue (level (getD words (at + 1) 0)) (queue (getD words (at + 2) 0)) (node (getD words (at + 3) 0))) (at + 4))
     (cond (isKind words at 2 3)
-    (Found (Dequeue (record { 0 = getD words (at + 1) 0 }) (record { 0 = getD words (at + 2) 0 })) (at + 3))
+    (Found (Dequeue (level (getD words (at + 1) 0)) (queue (getD words (at + 2) 0))) (at + 3))
     (cond (isKind words at 3 2 && leb 1 (getD words (at + 1) 0)) (Found (Steps (getD words (at + 1) 0)) (at + 2)) Nothing))
 
 -- what is given has no text: the line that cannot be written

@@ -13,6 +13,7 @@ ghost use Rattle.writing.specs.Parts.{
 };
 use text::Event;
 use text::EventFound;
+use text::LONGEST;
 use text::Opening;
 use words::Level;
 use words::Node;
@@ -29,8 +30,6 @@ pub enum Measured {
     Length(usize),
     Refused(usize),
 }
-
-const LONGEST: usize = 65536;
 
 // Whether the words at a place are n words of this kind.
 fn is_kind(words: &[u16], at: usize, kind: u16, n: usize) -> bool

@@ -1,6 +1,5 @@
 use borrow.Author.Tests.{le-leb, lt-leb}
 use Rattle.decimals.specs.Decimals.{isDigit}
-use borrow.Author.Needs.{needs}
 use Rattle.decimals.proofs.is_digit.Statement.{statement}
 use Rattle.decimals.proofs.is_digit.Tie as tie
 

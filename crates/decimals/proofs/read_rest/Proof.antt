@@ -1,7 +1,7 @@
 use native.Mathlib.Omega.{arith}
 use Prim.Native.Nat.{_≤_, _-_}
 use mathlib.Core.Path.{_≡_, refl, sym, _∙_}
-use lib.ListN.{length, getD}
+use lib.ListN.{length}
 use borrow.Author.Tests.{eq-eqb, ne-eqb}
 use Rattle.decimals.specs.Decimals.{restOf}
 use Rattle.decimals.specs.Laws.{rest-cons, rest-none, goes-on-is}

@@ -1,6 +1,5 @@
 use borrow.Author.Tests.{lt-ltb, le-ltb}
 use Rattle.decimals.specs.Decimals.{widthOf}
-use borrow.Author.Needs.{needs}
 use Rattle.decimals.proofs.width.Statement.{statement}
 use Rattle.decimals.proofs.width.Tie as tie
 

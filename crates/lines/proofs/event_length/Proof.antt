@@ -1,6 +1,4 @@
 use native.Mathlib.Omega.{arith}
-use lib.ListN.{length}
-use Rattle.text.specs.Text.{eventText}
 use Rattle.decimals.specs.Laws.{length-field}
 use Rattle.lines.specs.Laws.{enqueue-length, dequeue-length, steps-length}
 use borrow.Author.Needs.{needs}

@@ -1,4 +1,3 @@
-use Rattle.text.specs.Text.{eventText}
 use borrow.Author.Needs.{needs}
 use Rattle.lines.proofs.write_event.Statement.{statement}
 use Rattle.lines.proofs.write_event.Tie as tie

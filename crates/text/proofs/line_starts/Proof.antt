@@ -1,5 +1,5 @@
 use Rattle.text.specs.Laws.{past-end}
-use borrow.Author.Tests.{eq-eqb, ne-eqb, le-leb, lt-leb}
+use borrow.Author.Tests.{ne-eqb, le-leb, lt-leb}
 use Rattle.text.specs.Reading.{lineStarts}
 use borrow.Author.Needs.{needs}
 use Rattle.text.proofs.line_starts.Statement.{statement}

@@ -1,10 +1,9 @@
 use native.Mathlib.Omega.{arith}
-use Prim.Native.Nat.{_≤_, _+_, _-_}
-use mathlib.Core.Path.{_≡_, refl, sym, ap, _∙_}
+use Prim.Native.Nat.{_≤_, _-_}
+use mathlib.Core.Path.{_≡_, refl, sym, _∙_}
 use lib.ListN.{length, take}
-use lib.Seq.{take-all}
 use Rattle.text.specs.Reading.{lfs}
-use Rattle.text.specs.Laws.{lfs-more, lfs-one, lfs-past}
+use Rattle.text.specs.Laws.{lfs-more, lfs-past}
 use borrow.Author.Needs.{needs}
 use Rattle.text.proofs.lines_before.Statement.{statement}
 use Rattle.text.proofs.lines_before.Tie as tie

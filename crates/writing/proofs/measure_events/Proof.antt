@@ -1,5 +1,5 @@
 use Prim.Native.Nat.{_≤_, _+_, _*_, _-_}
-use mathlib.Core.Path.{_≡_, refl, sym, ap, _∙_}
+use mathlib.Core.Path.{_≡_, refl, sym, _∙_}
 use lib.ListN.{length}
 use Rattle.writing.specs.Parts.{lengthsIn, measuredAnswer}
 use Rattle.writing.specs.Laws.{event-on, lengths-more, lengths-stop, lengths-none}

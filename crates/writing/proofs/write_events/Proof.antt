@@ -1,8 +1,8 @@
 use native.Mathlib.Omega.{arith}
 use Rattle.writing.specs.Laws.{event-on, lines-more, lines-stop, lines-none, lines-room}
-use Prim.Native.Nat.{_≤_, _+_, _-_}
-use mathlib.Core.Path.{_≡_, refl, sym, ap, _∙_}
-use lib.ListN.{length, length-append}
+use Prim.Native.Nat.{_≤_, _-_}
+use mathlib.Core.Path.{_≡_, refl, sym, _∙_}
+use lib.ListN.{length}
 use Rattle.heads.specs.Put.{Putting}
 use Rattle.heads.specs.Laws.{putting-starts, putting-goes-on, putting-ends}
 use Rattle.writing.specs.Parts.{linesIn}
