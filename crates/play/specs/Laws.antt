@@ -19,15 +19,16 @@ use Rattle.play.specs.Play.{Played, before, stepsOf, eventOf, follow, ev
 use Rattle.play.specs.Parts.{into, readThen, atPlace}
 use Rattle.play.specs.Steps.{ranPlayed, steps-run, ran-counts}
 
-Log : Type 0
-Log = Said ℕ × List ℕ
-
 into-before : {A : Type 0} (x y : Said ℕ × List ℕ) (line : List ℕ) (p : List ℕ × A) → ink x line ≡ y → into x (before line p) ≡ into y p
 into-before x y line p e = ap (λ (w : Said ℕ × List ℕ). (w, p .1)) (ink-append x line (p .0) ∙ rw e)
 
 into-none : {A : Type 0} (x : Said ℕ × List ℕ) (a : A) → into x ([], a) ≡ (x, a)
 unfolding ink
 into-none x a = refl
+
+-- an event without lines
+pub into-quiet : {A : Type 0} (x : Said ℕ × List ℕ) (a b : A) → a ≡ b → into x ([], a) ≡ (x, b)
+into-quiet x a b e = into-none x a ∙ rw e
 
 -- a run that ended an operation, and one that stopped otherwise
 pub run-ended : (x y : Said ℕ × List ℕ) (left n : ℕ) (t u : List ℕ) (e : End) → 0 < left → runOf left t ≡ (says (after n (an-end e)), u)
@@ -55,15 +56,18 @@ module _ (x y : Said ℕ × List ℕ) (i : ℕ) (others : List ℕ → List ℕ 
       let f : ink x line ≡ y = ap (λ q. q .0) e in
       let g : t ≡ u = ap (λ q. q .1 .1) e in
       rw g (into-before x y line (others u) f)
-  follow-on (line, (refused r, t)) u e = let z : _≡_ {A = ℕ} 0 1 = cc in absurd (omega arith)
+  follow-on (line, (refused r, t)) u e =
+      let f : _≡_ {A = Said Unit} (refused r) (says tt) = ap (λ q. q .1 .0) e in let z : _≡_ {A = ℕ} 0 1 = cc in absurd (omega arith)
 
   follow-stop : (z : Said ℕ × List ℕ) (p : Played) (r : ℕ) (u : List ℕ) → into x p ≡ (y, (refused r, u)) → ink y (refusalLine i r) ≡ z
       → into x (follow i others p) ≡ (z, u)
   unfolding follow
-  follow-stop z (line, (says a, t)) r u e k = let o : _≡_ {A = ℕ} 0 1 = cc in absurd (omega arith)
+  follow-stop z (line, (says a, t)) r u e k =
+      let f : _≡_ {A = Said Unit} (says a) (refused r) = ap (λ w. w .1 .0) e in let o : _≡_ {A = ℕ} 0 1 = cc in absurd (omega arith)
   follow-stop z (line, (refused q, t)) r u e k =
       let f : ink x line ≡ y = ap (λ w. w .0) e in
       let g : t ≡ u = ap (λ w. w .1 .1) e in
+      let d : _≡_ {A = Said Unit} (refused q) (refused r) = ap (λ w. w .1 .0) e in
       let h : q ≡ r = cc in
       rw (g, h) (ap (λ (w : Said ℕ × List ℕ). (w, u)) (ink-then x line (refusalLine i r) f k))
 
@@ -94,6 +98,10 @@ pub place-wrong : (x : Said ℕ × List ℕ) (k i : ℕ) (text : List ℕ) (at :
 unfolding atPlace
 place-wrong x zero i text at t n vs r = into-none x t
 place-wrong x (suc k) i text at t n vs r = rw r (into-none x t)
+
+pub place-start : (x : Said ℕ × List ℕ) (count : ℕ) (text : List ℕ) (at : ℕ) (t : List ℕ)
+    → into x (atPlace count 1 text at t) ≡ into x (atPlace (count - 0) (0 + 1) text at t)
+place-start x count text at t = let e : count ≡ count - 0 = omega arith in ap (λ (k : ℕ). into x (atPlace k 1 text at t)) e
 
 pub place-none : (x : Said ℕ × List ℕ) (k i : ℕ) (text : List ℕ) (at : ℕ) (t : List ℕ) → k ≤ 0 → into x (atPlace k i text at t) ≡ (x, t)
 unfolding atPlace

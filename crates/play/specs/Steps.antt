@@ -86,14 +86,15 @@ module _ (s : Sizes) where
   run-played : (left n : ℕ) (t : List ℕ) → measured t ≡ Sized s → stepsOf left t ≡ ranPlayed (n + left) (runFrom s left n t)
   unfolding stepsOf goOn runFrom ranOn ranPlayed
   run-played zero n t m = refl
-  run-played (suc left) n t m = ap (goOn (stepsOf left)) (step-is s t m) ∙ by (stepSized s t) (step-kept s t m)
+  run-played (suc left) n t m = ap (goOn (stepsOf left)) (step-is s t m) ∙ by (stepSized s t) (step-kept s t m) (run-played left (n + 1))
     where
-      by : (x : Out) → Kept s x → goOn (stepsOf left) x ≡ ranPlayed (n + suc left) (ranOn n (runFrom s left) (x .0) (x .1))
-      by (says going-on, u) k =
-          let e : n + 1 + left ≡ n + suc left = omega arith in rw e at (run-played left (n + 1) u (k .sized))
-      by (says (ended e), u) k =
+      by : (x : Out) → Kept s x → ((u : List ℕ) → measured u ≡ Sized s → stepsOf left u ≡ ranPlayed (n + 1 + left) (runFrom s left (n + 1) u))
+          → goOn (stepsOf left) x ≡ ranPlayed (n + suc left) (ranOn n (runFrom s left) (x .0) (x .1))
+      by (says going-on, u) k ih =
+          let e : n + 1 + left ≡ n + suc left = omega arith in rw e at (ih u (k .sized))
+      by (says (ended e), u) k ih =
           let z : left ≡ n + suc left - (n + 1) = omega arith in ap (λ (i : ℕ). before (endLine e) (stepsOf i u)) z
-      by (refused r, u) k = why r (k .known)
+      by (refused r, u) k ih = why r (k .known)
         where
           why : (r : ℕ) → (r ≡ 9) ⊎ (r ≡ 10)
               → ([], (refused r, u)) ≡ ranPlayed (n + suc left) (says (after n (cond (eqb r 9) nothing-runs refusal-10)), u)
@@ -102,25 +103,27 @@ module _ (s : Sizes) where
 
   run-counts : (left n m : ℕ) (t u : List ℕ) (e : End) → runFrom s left n t ≡ (says (after m (an-end e)), u) → (n < m) × (m ≤ n + left)
   unfolding runFrom ranOn
-  run-counts zero n m t u e h = let z : _≡_ {A = ℕ} 0 1 = cc in absurd (omega arith)
-  run-counts (suc left) n m t u e h = by (stepSized s t) h
+  run-counts zero n m t u e h =
+      let f : says (after n spent) ≡ says (after m (an-end e)) = ap (λ q. q .0) h in let z : _≡_ {A = ℕ} 0 1 = cc in absurd (omega arith)
+  run-counts (suc left) n m t u e h = by (stepSized s t) (λ v. run-counts left (n + 1) m v u e) h
     where
-      by : (x : Out) → ranOn n (runFrom s left) (x .0) (x .1) ≡ (says (after m (an-end e)), u) → (n < m) × (m ≤ n + suc left)
-      by (says going-on, v) k = let c = run-counts left (n + 1) m v u e k in (omega arith, omega arith)
-      by (says (ended d), v) k = let c : n + 1 ≡ m = cc in (omega arith, omega arith)
-      by (refused r, v) k = why (eqb r 9) k
+      by : (x : Out) → ((v : List ℕ) → runFrom s left (n + 1) v ≡ (says (after m (an-end e)), u) → (n + 1 < m) × (m ≤ n + 1 + left))
+          → ranOn n (runFrom s left) (x .0) (x .1) ≡ (says (after m (an-end e)), u) → (n < m) × (m ≤ n + suc left)
+      by (says going-on, v) ih k = let c = ih v k in (omega arith, omega arith)
+      by (says (ended d), v) ih k =
+          let f : says (after (n + 1) (an-end d)) ≡ says (after m (an-end e)) = ap (λ q. q .0) k in let c : n + 1 ≡ m = cc in (omega arith, omega arith)
+      by (refused r, v) ih k = why (eqb r 9) k
         where
-          why : (b : Bool) → (says (after n (cond b nothing-runs refusal-10)), v) ≡ (says (after m (an-end e)), u) → (n < m) × (m ≤ n + suc left)
-          why true w = let z : _≡_ {A = ℕ} 0 1 = cc in absurd (omega arith)
-          why false w = let z : _≡_ {A = ℕ} 0 1 = cc in absurd (omega arith)
+          why : (b : Bool) → _≡_ {A = Said Run × List ℕ} (says (after n (cond b nothing-runs refusal-10)), v) (says (after m (an-end e)), u) → (n < m) × (m ≤ n + suc left)
+          why true w = let f : says (after n nothing-runs) ≡ says (after m (an-end e)) = ap (λ q. q .0) w in let z : _≡_ {A = ℕ} 0 1 = cc in absurd (omega arith)
+          why false w = let f : says (after n refusal-10) ≡ says (after m (an-end e)) = ap (λ q. q .0) w in let z : _≡_ {A = ℕ} 0 1 = cc in absurd (omega arith)
 
 pub steps-run : (left : ℕ) (t : List ℕ) → 0 < left → stepsOf left t ≡ ranPlayed left (runOf left t)
-unfolding runOf runMeasured
+unfolding runOf runMeasured stepsOf goOn stepOf stepMeasured ranPlayed
 steps-run zero t h = absurd (omega arith)
 steps-run (suc n) t h = by (measured t) refl
   where
     by : (x : Measured) → measured t ≡ x → stepsOf (suc n) t ≡ ranPlayed (suc n) (runMeasured (suc n) t x)
-    unfolding stepsOf goOn stepOf stepMeasured runMeasured ranPlayed
     by Unfit m = rw m
     by (Sized s) m = rw zero-add at (run-played s (suc n) 0 t m)
 
@@ -129,6 +132,5 @@ unfolding runOf runMeasured
 ran-counts left m t u e h = by (measured t) h
   where
     by : (x : Measured) → runMeasured left t x ≡ (says (after m (an-end e)), u) → (0 < m) × (m ≤ left)
-    unfolding runMeasured
-    by Unfit k = let z : _≡_ {A = ℕ} 0 1 = cc in absurd (omega arith)
+    by Unfit k = let f : _≡_ {A = Said Run} (refused 1) (says (after m (an-end e))) = ap (λ q. q .0) k in let z : _≡_ {A = ℕ} 0 1 = cc in absurd (omega arith)
     by (Sized s) k = let c = run-counts s left 0 m t u e k in (omega arith, omega arith)
