@@ -1,2 +1,3 @@
 pub mod Log
+pub mod Parts
 pub mod Laws

@@ -2,7 +2,7 @@
 use Prim.Native.Nat.{ℕ, zero, suc}
 use mathlib.Core.List.{List, [], _∷_, _++_}
 use mathlib.Core.Bool.{cond}
-use lib.ListN.{length, take, replicate}
+use lib.ListN.{length, getD, take, replicate}
 use lib.Dec.{ltb}
 use Rattle.words.specs.declared.Sizes.{Sizes}
 use Rattle.words.specs.Layout.{queue}
@@ -15,7 +15,7 @@ use Rattle.fresh.specs.Fresh.{freshOf}
 use Rattle.asks.specs.Listing.{listingOf}
 use Rattle.loglines.specs.Lines.{textLine, sizesLine, queueLine, unquietLine}
 use Rattle.loglines.specs.Written.{written}
-use Rattle.play.specs.Play.{before, eventsOf}
+use Rattle.play.specs.Play.{eventsOf}
 
 -- `Q queue` and its listing, or `U queue`
 unfoldable pub listedLine : ℕ → Said ℕ × List ℕ → List ℕ
@@ -33,26 +33,29 @@ queuesOf t q (suc n) = queueOf t q ++ queuesOf t (suc q) n
 abbrev pub openingSizes : Opening → Sizes
 openingSizes o = record { levels = o .levels; queues = o .queues; nodes = o .nodes }
 
--- sizes refused: `R 0 2` and nothing more; else the events, then each queue
-unfoldable pub playedOf : Opening → List Event → Said Unit × List ℕ → List ℕ × List ℕ
-playedOf o es (refused r, t) = (sizesLine, t)
-playedOf o es (says _, t) = let p = eventsOf 1 es t in (p .0 ++ queuesOf (p .1) 1 (o .queues), p .1)
+-- what the events did, and then a line for each queue
+abbrev pub withQueues : Opening → List ℕ × List ℕ → List ℕ × List ℕ
+withQueues o p = (p .0 ++ queuesOf (p .1) 1 (o .queues), p .1)
+
+-- sizes refused: `R 0 2` and nothing more
+unfoldable pub sizedLog : Opening → List Event → Said Unit × List ℕ → List ℕ × List ℕ
+sizedLog o es (refused r, t) = (sizesLine, t)
+sizedLog o es (says _, t) = withQueues o (eventsOf 1 es t)
 
 -- text refused: `T line` and nothing more
-unfoldable pub answeredLog : List ℕ → Answer (Opening × List Event) → List ℕ × List ℕ
-answeredLog t (refuses number values) = (textLine (first values), t)
-answeredLog t (gives s) = playedOf (s .0) (s .1) (freshOf (openingSizes (s .0)) t)
+unfoldable pub readLog : List ℕ → Answer (Opening × List Event) → List ℕ × List ℕ
+readLog t (refuses number values) = (textLine (getD values 0 0), t)
+readLog t (gives s) = sizedLog (s .0) (s .1) (freshOf (openingSizes (s .0)) t)
 
 -- the log, and the words of the table t that was lent for the work
 unfoldable pub logText : List ℕ → List ℕ → List ℕ × List ℕ
-logText text t = answeredLog t (scheduleReading text)
+logText text t = readLog t (scheduleReading text)
 
 -- the words of the largest table: 16 levels, 8 queues, 1,024 nodes
 abbrev pub largest : ℕ
 largest = 2276
 
--- refusals 1 for a table of fewer words, and 12; the room and the table afterwards
+-- refusals 1 for a table of fewer words, and 12; what is answered, the room and the table afterwards
 unfoldable pub logOf : List ℕ → List ℕ → List ℕ → (Said ℕ × List ℕ) × List ℕ
 logOf text t room =
-    cond (ltb (length t) largest) ((refused 1, room), t)
-    (let l = logText text t in (written (l .0) room, l .1))
+    cond (ltb (length t) largest) ((refused 1, room), t) (written (logText text t .0) room, logText text t .1)

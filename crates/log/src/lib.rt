@@ -2,7 +2,11 @@
 ghost use mathlib.Core.Path.{_≡_};
 ghost use Rattle.loglines.specs.Written.{logSays};
 ghost use Rattle.loglines.specs.Pen.{ink};
-ghost use Rattle.log.specs.Log.{queueOf, queuesOf, logOf};
+ghost use Rattle.answers.specs.Said.{says};
+ghost use Rattle.fresh.specs.Fresh.{freshOf};
+ghost use Rattle.play.specs.Parts.{into};
+ghost use Rattle.log.specs.Log.{queueOf, queuesOf, openingSizes, logOf};
+ghost use Rattle.log.specs.Parts.{placedLog};
 use answers::Counted;
 use answers::Done;
 use loglines::Logged;
@@ -35,7 +39,10 @@ fn write_queues(table: &[u16], room: &mut [u8], log: Logged, queues: u16) -> Log
     next
 }
 
-fn write_played(text: &[u8], place: usize, o: Opening, table: &mut [u16], room: &mut [u8]) -> Logged {
+// The log of a text that is right, whose events start at place.
+fn write_played(text: &[u8], place: usize, o: Opening, table: &mut [u16], room: &mut [u8]) -> Logged
+    ensures { λ r. ⌜ into (says 0, now (room .entry)) (placedLog o (now (text .entry)) place (freshOf (openingSizes o) (now (table .entry)))) ≡ ((logSays r, now (room .exit)), now (table .exit)) ⌝ }
+{
     match fresh::fresh_table(table, o.levels, o.queues, o.nodes) {
         Done::Yes => {
             let log = play::play_events(text, place, o.events, table, room, Logged::Bytes(0));

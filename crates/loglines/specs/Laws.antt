@@ -9,7 +9,7 @@ use native.Mathlib.Numerals.{add-one}
 use lib.ListN.{length, length-append, take, drop, getD, set, drop-of-length-le}
 use lib.Seq.{sets, sets-eq, drop-cons, length-take-le, getD-take, set-append-seam, take-append-seam}
 use lib.Dec.{ltb, leb}
-use borrow.Author.Tests.{lt-ltb, le-ltb, le-leb, lt-leb}
+use borrow.Author.Tests.{lt-ltb, le-ltb, le-leb, lt-leb, leb-true}
 use Rattle.heads.specs.Put.{Put}
 use Rattle.decimals.specs.Decimals.{digitsOf}
 use Rattle.text.specs.Text.{space}
@@ -100,3 +100,33 @@ ink-behind done (x ∷ room) (b ∷ bs) =
 pub ink-written : (room log : List ℕ) → ink (says 0, room) log ≡ written log room
 unfolding written
 ink-written room log = ink-behind [] room log ∙ rw (zero-add, zero-add)
+
+-- ---- the room afterwards
+
+over-length : (log room : List ℕ) → length (over log room) ≡ length room
+unfolding over
+over-length [] room = refl
+over-length (b ∷ log) [] = refl
+over-length (b ∷ log) (x ∷ room) = ap suc (over-length log room)
+
+over-all : (log room : List ℕ) → length log ≤ length room → over log room ≡ log ++ drop (length log) room
+unfolding over
+over-all [] room h = refl
+over-all (b ∷ log) [] h = absurd (omega arith)
+over-all (b ∷ log) (x ∷ room) h = ap (λ (l : List ℕ). b ∷ l) (over-all log room (omega arith))
+
+-- a room that is not below the log's length has the log at its start, and what it had past it
+pub written-all : (log room : List ℕ) → length log ≤ length room → written log room ≡ (says (length log), log ++ drop (length log) room)
+unfolding written
+written-all log room h = rw (counted-all (length log) (length log) (length room) refl h, over-all log room h)
+
+-- the bytes that are written are in the room
+pub written-within : (log room after : List ℕ) (n : ℕ) → written log room ≡ (says n, after) → n ≤ length after
+unfolding written counted
+written-within log room after n h = by (leb (length log) (length room)) refl (ap (λ q. q .0) h)
+  where
+    by : (b : Bool) → leb (length log) (length room) ≡ b → cond b (says (length log)) (refused 12) ≡ says n → n ≤ length after
+    by true e f =
+        let k : length log ≡ n = cc in
+        omega (arith, leb-true (length log) (length room) e, over-length log room, ap length (ap (λ q. q .1) h))
+    by false e f = let z : _≡_ {A = ℕ} 0 1 = cc in absurd (omega arith)

@@ -76,7 +76,14 @@ fn play_event(table: &mut [u16], room: &mut [u8], log: Logged, e: Event) -> Turn
 }
 
 // So many events of the text from place on.
-pub fn play_events(text: &[u8], place: usize, count: u16, table: &mut [u16], room: &mut [u8], log: Logged) -> Logged
+pub fn play_events(
+    text: &[u8],
+    place: usize,
+    count: u16,
+    table: &mut [u16],
+    room: &mut [u8],
+    log: Logged,
+) -> Logged
     ensures { λ r. ⌜ into (logSays log, now (room .entry)) (atPlace count 1 (now (text .entry)) place (now (table .entry))) ≡ ((logSays r, now (room .exit)), now (table .exit)) ⌝ }
 {
     let mut next = log;
