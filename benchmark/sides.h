@@ -1,5 +1,5 @@
-/* The two sides that are compared: plain C, and the proved library through the crate `exports`. Both
- * have the same calls, which the tests make through the same table of functions. */
+/* The sides that are compared: plain C, and the proved library through the crate `exports`. They have
+ * the same calls, which a test makes through the same table of functions. */
 #ifndef SIDES_H
 #define SIDES_H
 
@@ -32,11 +32,10 @@ struct side {
             prefix##_quiet, prefix##_waiting, prefix##_listing                                               \
     }
 
-static const struct side plain_side = SIDE("C", plain);
-#ifdef WITHOUT_OURS /* plain C against itself: shows that the test runs */
-static const struct side our_side = SIDE("C again", plain);
+#ifdef WITHOUT_OURS /* plain C in the place of ours: shows that a test runs */
+#define OUR_SIDE SIDE("C again", plain)
 #else
-static const struct side our_side = SIDE("ours", exports);
+#define OUR_SIDE SIDE("ours", exports)
 #endif
 
 enum { MOST_WORDS = 4 + 13 * 16 + 2 * 8 + 2 * 1024 };

@@ -10,6 +10,8 @@
 #include <sys/mman.h>
 #include <unistd.h>
 
+static const struct side plain_side = SIDE("C", plain), our_side = OUR_SIDE;
+
 enum { SLACK = 16, ROOM = 1024 + SLACK, BUFFER = MOST_WORDS + SLACK, FRAME_WORDS = 11 };
 
 enum kind { FRESH, ENQUEUE, DEQUEUE, STEP, RUN, QUIET, WAITING, LISTING, KINDS };

@@ -6,6 +6,8 @@
 
 enum { WORDS = 40, ENOUGH = 1000 };
 
+static const struct side plain_side = SIDE("C", plain), our_side = OUR_SIDE;
+
 static int wrong;
 
 #define EXPECT(truth)                                                                                        \
