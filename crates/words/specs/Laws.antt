@@ -10,7 +10,7 @@ use native.Mathlib.Numerals.{add-one}
 use lib.ListN.{length, getD, set, length-set, take, drop}
 use lib.Seq.{sets, length-sets, getD-set-same, getD-set-other}
 use lib.Dec.{ltb, leb, eqb}
-use borrow.Author.Tests.{ltb-true, leb-true, eqb-true, le-leb, lt-ltb}
+use borrow.Author.Tests.{ltb-true, leb-true, eqb-true, le-leb, lt-ltb, eq-eqb}
 use Rattle.words.specs.declared.Level.{Level}
 use Rattle.words.specs.declared.Queue.{Queue}
 use Rattle.words.specs.declared.Node.{Node}
@@ -34,6 +34,7 @@ use Rattle.words.specs.Layout.{
   sizesOf,
   agrees,
   levelsAgain,
+  putCounts,
   measured,
   has,
   addr,
@@ -44,6 +45,7 @@ use Rattle.words.specs.Layout.{
   frameWords,
   frameOf,
   putFrame,
+  noFrame,
 }
 use Rattle.words.specs.Inner.{Small, Fits}
 
@@ -461,3 +463,80 @@ measured-put s t l f e =
 pub has-use : (s : Sizes) (n : Node) → has s (Next n) ≡ true → has s (Use n) ≡ true
 unfolding has
 has-use s n h = h
+
+-- ---- a table whose words are 0, and one whose counts were written
+
+module _ (s : Sizes) (t : List ℕ) (zeros : (i : ℕ) → i < words s → getD t i 0 ≡ 0) where
+  pub rd-zero : (w : Word) → has s w ≡ true → rd s t w ≡ 0
+  unfolding rd
+  rd-zero w h = zeros (addr s w) (addr-in s w h)
+
+  pub frame-zero : (l : Level) → l .0 < s .levels → frameOf s t l ≡ noFrame
+  unfolding frameOf
+  frame-zero l h =
+      frame-kept [] t (frameAt s l) (λ i k. zeros (frameAt s l + i) (omega (arith, frame-in s l h)))
+
+-- a place that has none of the counts keeps its word
+counts-out : (s : Sizes) (t : List ℕ) (i : ℕ) → i ≢ levelsAt → i ≢ queuesAt (s .levels) → i ≢ nodesAt (s .levels) (s .queues)
+    → i ≢ framesAt (s .levels) (s .queues) (s .nodes) → getD (putCounts s t) i 0 ≡ getD t i 0
+unfolding putCounts
+counts-out s t i a b c d = simp getD-set-other
+
+pub counts-length : (s : Sizes) (t : List ℕ) → length (putCounts s t) ≡ length t
+unfolding putCounts
+counts-length s t = simp length-set
+
+pub counts-past : (s : Sizes) (t : List ℕ) (i : ℕ) → words s ≤ i → getD (putCounts s t) i 0 ≡ getD t i 0
+counts-past s t i p = counts-out s t i (λ e. omega arith) (λ e. omega arith) (λ e. omega arith) (λ e. omega arith)
+
+pub rd-counts : (s : Sizes) (t : List ℕ) (w : Word) → has s w ≡ true → rd s (putCounts s t) w ≡ rd s t w
+unfolding rd
+rd-counts s t w h =
+    let k = addr-clear s w h in
+    counts-out s t (addr s w) (k .no-levels) (k .no-queues) (k .no-nodes) (λ e. omega (arith, k .before))
+
+pub frame-counts : (s : Sizes) (t : List ℕ) (l : Level) → frameOf s (putCounts s t) l ≡ frameOf s t l
+unfolding frameOf
+frame-counts s t l =
+    let p = frame-past s l in
+    frame-kept t (putCounts s t) (frameAt s l)
+    (λ i k. counts-out s t (frameAt s l + i) (λ e. omega arith) (λ e. omega arith) (λ e. omega arith) (λ e. omega arith))
+
+-- four words written in rising places are there afterwards
+set-four : (t : List ℕ) (a b c d w x y z : ℕ) → a < b → b < c → c < d → d < length t
+    → let u = set (set (set (set t a w) b x) c y) d z in
+    (getD u a 0 ≡ w) × (getD u b 0 ≡ x) × (getD u c 0 ≡ y) × (getD u d 0 ≡ z)
+set-four t a b c d w x y z p q r l =
+    let ab : a ≢ b = λ e. omega arith in
+    let ac : a ≢ c = λ e. omega arith in
+    let ad : a ≢ d = λ e. omega arith in
+    let bc : b ≢ c = λ e. omega arith in
+    let bd : b ≢ d = λ e. omega arith in
+    let cd : c ≢ d = λ e. omega arith in
+    let at : (u : List ℕ) (i v : ℕ) → i < length u → getD (set u i v) i 0 ≡ v = λ u i v. getD-set-same u i v 0 in (
+      simp getD-set-other (at t a w (omega arith)),
+      simp getD-set-other (at (set t a w) b x (rw length-set (omega arith))),
+      simp getD-set-other (at (set (set t a w) b x) c y (simp length-set (omega arith))),
+      at (set (set (set t a w) b x) c y) d z (simp length-set (omega arith)),
+    )
+
+pub measured-counts : (s : Sizes) (t : List ℕ) → limits s ≡ true → words s ≤ length t → measured (putCounts s t) ≡ Sized s
+unfolding putCounts agrees
+measured-counts s t lim room =
+    let w =
+    set-four t levelsAt (queuesAt (s .levels)) (nodesAt (s .levels) (s .queues)) (framesAt (s .levels) (s .queues) (s .nodes))
+    (s .levels) (s .queues) (s .nodes) (s .levels) (omega arith) (omega arith) (omega arith) (omega arith) in
+    let is : sizesOf (putCounts s t) ≡ s = simp (w .0, w .1, w .2) in
+    let ok : agrees s (putCounts s t) ≡ true =
+    simp (lim, length-set, le-leb (words s) (length t) room, w .3, eq-eqb (s .levels) (s .levels) refl) in
+    measured-is (putCounts s t) s is ok
+
+-- a word whose number is in its range is one of the table's
+pub has-is : (s : Sizes) (w : Word) → Bound s w → has s w ≡ true
+unfolding has Bound
+has-is s (LevelNode l) b = lt-ltb (l .0) (s .levels) b
+has-is s (LevelQueue l) b = lt-ltb (l .0) (s .levels) b
+has-is s (Head q) b = within-is 1 (s .queues) (q .0) (b .0) (b .1)
+has-is s (Tail q) b = within-is 1 (s .queues) (q .0) (b .0) (b .1)
+has-is s (Next n) b = within-is 1 (s .nodes) (n .0) (b .0) (b .1)
+has-is s (Use n) b = within-is 1 (s .nodes) (n .0) (b .0) (b .1)
