@@ -1,0 +1,150 @@
+-- What every row of the step table has in common: it keeps the frame's op and queue; an enqueue ends with its own node;
+-- a dequeue ends with a node only where it frees it, and else empty.
+use Prim.Native.Nat.{ℕ}
+use mathlib.Core.Path.{_≡_, refl}
+use mathlib.Core.Logic.{_⊎_, inl, inr}
+use mathlib.Core.Bool.{Bool, true, false, cond}
+use lib.Dec.{eqb}
+use Rattle.words.specs.declared.Level.{Level}
+use Rattle.words.specs.declared.Node.{Node}
+use Rattle.words.specs.declared.Frame.{Frame}
+use Rattle.words.specs.declared.Word.{Word}
+use Rattle.table.specs.declared.After.{After}
+use Rattle.table.specs.declared.After.the-variants.{Go, Done}
+use Rattle.table.specs.Points.{
+  Point,
+  E1,
+  E2,
+  E3,
+  E4,
+  E5,
+  E6,
+  E7,
+  E8,
+  E9,
+  E10,
+  E11,
+  E12,
+  E13,
+  E14,
+  E15,
+  E16,
+  E17,
+  E18,
+  E19,
+  E20,
+  E21,
+  E22,
+  E23,
+  E24,
+  E25,
+  E26,
+  E27,
+  E28,
+  E29,
+  D1,
+  D2,
+  D3,
+  D4,
+  D5,
+  D6,
+  D7,
+  Unknown,
+}
+use Rattle.table.specs.Frames.{ifEq, belowKTo, belowMTo, walkTo}
+use Rattle.table.specs.Table.{Row, loads, stores, frees, nothing, row}
+use Rattle.state.specs.Mem.{Mem, look}
+use Rattle.state.specs.Step.{then, frameAfter}
+use Rattle.lists.specs.Count.{Same, same, apart, same?}
+
+-- what follows, for a frame f
+pub data Plain (f : Frame) : After → Type 0 where
+  goes : {g : Frame} → g .op ≡ f .op → g .queue ≡ f .queue → Plain f (Go g)
+  empty : {n : Node} → n .0 ≡ 0 → Plain f (Done n)
+  handed : {n : Node} → f .op ≡ 1 → n ≡ f .node → Plain f (Done n)
+
+pub data Plainly (f : Frame) : Row → Type 0 where
+  load : {w : Word} {after : ℕ → After} → ((x : ℕ) → Plain f (after x)) → Plainly f (loads w after)
+  store : {w : Word} {v : ℕ} {after : After} → Plain f after → Plainly f (stores w v after)
+  free : {n : Node} → Plainly f (frees n (Done n))
+  none : Plainly f nothing
+
+-- a branch, by what it tests
+by-eq : {f : Frame} {a b : ℕ} {x y : After} → (a ≡ b → Plain f x) → Plain f y → Plain f (ifEq a b x y)
+unfolding ifEq
+by-eq {f} {a} {b} {x} {y} h k = by (eqb a b) (same? a b)
+  where
+    by : (t : Bool) → Same a b t → Plain f (cond t x y)
+    by true (same e) = h e
+    by false (apart e) = k
+
+-- the branches of the step table over a frame g that has f's op and queue
+below-k : {f : Frame} (g : Frame) → g .op ≡ f .op → g .queue ≡ f .queue → (x y : ℕ) → Plain f (belowKTo x y g)
+unfolding belowKTo
+below-k g o q x y = by-eq (λ e. goes o q) (goes o q)
+
+below-m : {f : Frame} (g : Frame) → g .op ≡ f .op → g .queue ≡ f .queue → (x y : ℕ) → Plain f (belowMTo x y g)
+unfolding belowMTo
+below-m g o q x y = by-eq (λ e. goes o q) (goes o q)
+
+walk-on : {f : Frame} (x v : ℕ) → Plain f (walkTo x v f)
+unfolding walkTo
+walk-on x v = by-eq (λ e. goes refl refl) (goes refl refl)
+
+by : (f : Frame) (a : After) → Plain f a → (frameAfter a .op ≡ 0) ⊎ ((frameAfter a .op ≡ f .op) × (frameAfter a .queue ≡ f .queue))
+by f a (goes o q) = inr (o, q)
+by f a (empty e) = inl refl
+by f a (handed o e) = inl refl
+
+pub row-plain : (p : Point) (f : Frame) (l top : Level) → Plainly f (row p f l top)
+unfolding row
+row-plain E1 f l top = store (goes refl refl)
+row-plain E2 f l top = store (below-k _ refl refl 7 3)
+row-plain E3 f l top = load (λ x. by-eq (λ e. goes refl refl) (below-k _ refl refl 7 3))
+row-plain E4 f l top = load (λ x. goes refl refl)
+row-plain E5 f l top = load (λ x. by-eq (λ e. goes refl refl) (below-m _ refl refl 15 13))
+row-plain E6 f l top = store (below-k _ refl refl 7 3)
+row-plain E7 f l top = load (λ x. goes refl refl)
+row-plain E8 f l top = load (λ x. walk-on 9 x)
+row-plain E9 f l top = store (goes refl refl)
+row-plain E10 f l top = load (λ x. walk-on 11 x)
+row-plain E11 f l top = store (goes refl refl)
+row-plain E12 f l top = store (goes refl refl)
+row-plain E13 f l top = load (λ x. by-eq (λ e. goes refl refl) (below-m _ refl refl 15 13))
+row-plain E14 f l top = load (λ x. by-eq (λ e. below-m _ refl refl 15 13) (goes refl refl))
+row-plain E15 f l top = load (λ x. goes refl refl)
+row-plain E16 f l top =
+    load
+    (λ x.
+    by-eq (λ e. goes refl refl) (by-eq (λ e. by-eq (λ e. goes refl refl) (below-m _ refl refl 15 13)) (goes refl refl)))
+row-plain E17 f l top = load (λ x. goes refl refl)
+row-plain E18 f l top = store (goes refl refl)
+row-plain E19 f l top = load (λ x. walk-on 20 x)
+row-plain E20 f l top = store (goes refl refl)
+row-plain E21 f l top = load (λ x. goes refl refl)
+row-plain E22 f l top = store (goes refl refl)
+row-plain E23 f l top = load (λ x. walk-on 24 x)
+row-plain E24 f l top = store (goes refl refl)
+row-plain E25 f l top = load (λ x. by-eq (λ e. goes refl refl) (goes refl refl))
+row-plain E26 f l top = store (goes refl refl)
+row-plain E27 f l top = store (goes refl refl)
+row-plain E28 f l top = store (goes refl refl)
+row-plain E29 f l top = store (by-eq (λ e. handed e refl) (goes refl refl))
+row-plain D1 f l top = load (λ x. goes refl refl)
+row-plain D2 f l top = load (λ x. by-eq (λ e. empty refl) (goes refl refl))
+row-plain D3 f l top = load (λ x. by-eq (λ e. empty refl) (goes refl refl))
+row-plain D4 f l top = load (λ x. goes refl refl)
+row-plain D5 f l top = store (by-eq (λ e. goes refl refl) (goes refl refl))
+row-plain D6 f l top = store (goes refl refl)
+row-plain D7 f l top = free
+row-plain Unknown f l top = none
+
+-- ---- a frame's next frame
+
+-- the frame as it becomes has its queue still, or is none
+pub frame-after : (M : Mem) (f : Frame) (x : Row) → Plainly f x
+    → (frameAfter (then M x f) .op ≡ 0) ⊎ ((frameAfter (then M x f) .op ≡ f .op) × (frameAfter (then M x f) .queue ≡ f .queue))
+frame-after M f x (load {w = w} h) = by f _ (h (look M w))
+frame-after M f x (store h) = by f _ h
+frame-after M f x free = inl refl
+frame-after M f x none = inr (refl, refl)
