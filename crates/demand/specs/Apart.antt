@@ -20,7 +20,7 @@ use Rattle.table.specs.Table.{Row, loads, stores, frees, nothing}
 use Rattle.lists.specs.Count.{Same, same, apart, same?, hit}
 use Rattle.state.specs.Mem.{Mem, put, put-same, put-other, upd}
 use Rattle.state.specs.Step.{State, memAfter, then, frameAfter, rowOf, stepped}
-use Rattle.demand.specs.Rows.{frame-after, row-plain}
+use Rattle.demand.specs.Rows.{nextFrame, next-frame}
 use Rattle.state.specs.Queues.{On, own, Mine, Within, load, store, free, Alike, still, others, Apart}
 
 -- ---- nodes
@@ -184,17 +184,16 @@ module _ (s : Sizes) (q r : ℕ) (S : State) (some : 1 ≤ q) (ne : q ≢ r) (re
 
   -- a step of a frame on the other queue
   pub apart-step : (levels l : ℕ) → On r (S .frames l) → Within s r S (rowOf levels l (S .frames l)) → Apart s q S (stepped levels l S)
-  unfolding counted
   apart-step levels l h w =
-      let f = S .frames l in
-      let x = rowOf levels l f in
-      let g = frameAfter (then (S .mem) x (counted f)) in
-      apart-put (memAfter (S .mem) x) l g (kept-row x w) (not-on f h)
-      (by g (frame-after (S .mem) (counted f) x (row-plain (pointOf (counted f .point)) (counted f) (level l) (level levels))))
+      apart-put (memAfter (S .mem) (rowOf levels l (S .frames l))) l g (kept-row (rowOf levels l (S .frames l)) w) (not-on (S .frames l) h)
+      (by (next-frame (S .mem) levels l (S .frames l)))
     where
-      by : (g : Frame) → (g .op ≡ 0) ⊎ ((g .op ≡ S .frames l .op) × (g .queue ≡ S .frames l .queue)) → ¬ On q g
-      by g (inl e) k = k .0 e
-      by g (inr e) k = ne (sym (k .1) ∙ ap (λ (u : Queue). u .0) (e .1) ∙ h .1)
+      g : Frame
+      g = nextFrame (S .mem) levels l (S .frames l)
+
+      by : (g .op ≡ 0) ⊎ ((g .op ≡ S .frames l .op) × (g .queue ≡ S .frames l .queue)) → ¬ On q g
+      by (inl e) k = k .0 e
+      by (inr e) k = ne (sym (k .1) ∙ ap (λ (u : Queue). u .0) (e .1) ∙ h .1)
 
   -- a begin on the other queue: a dequeue, and an enqueue with its node's use
   pub apart-dequeue : (l : ℕ) (g : Frame) → ¬ On q (S .frames l) → On r g → Apart s q S (record { mem = S .mem; frames = put (S .frames) l g })

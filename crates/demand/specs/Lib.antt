@@ -1,3 +1,4 @@
 pub mod Rows
 pub mod Apart
 pub mod Alone
+pub mod World

@@ -50,11 +50,13 @@ use Rattle.table.specs.Points.{
   D6,
   D7,
   Unknown,
+  pointOf,
 }
-use Rattle.table.specs.Frames.{ifEq, belowKTo, belowMTo, walkTo}
+use Rattle.words.specs.Layout.{level}
+use Rattle.table.specs.Frames.{counted, ifEq, belowKTo, belowMTo, walkTo}
 use Rattle.table.specs.Table.{Row, loads, stores, frees, nothing, row}
 use Rattle.state.specs.Mem.{Mem, look}
-use Rattle.state.specs.Step.{then, frameAfter}
+use Rattle.state.specs.Step.{then, frameAfter, rowOf}
 use Rattle.lists.specs.Count.{Same, same, apart, same?}
 
 -- what follows, for a frame f
@@ -142,9 +144,19 @@ row-plain Unknown f l top = none
 -- ---- a frame's next frame
 
 -- the frame as it becomes has its queue still, or is none
-pub frame-after : (M : Mem) (f : Frame) (x : Row) → Plainly f x
+frame-after : (M : Mem) (f : Frame) (x : Row) → Plainly f x
     → (frameAfter (then M x f) .op ≡ 0) ⊎ ((frameAfter (then M x f) .op ≡ f .op) × (frameAfter (then M x f) .queue ≡ f .queue))
 frame-after M f x (load {w = w} h) = by f _ (h (look M w))
 frame-after M f x (store h) = by f _ h
 frame-after M f x free = inl refl
 frame-after M f x none = inr (refl, refl)
+
+-- the frame after a step
+abbrev pub nextFrame : Mem → ℕ → ℕ → Frame → Frame
+nextFrame M levels l f = frameAfter (then M (rowOf levels l f) (counted f))
+
+pub next-frame : (M : Mem) (levels l : ℕ) (f : Frame)
+    → (nextFrame M levels l f .op ≡ 0) ⊎ ((nextFrame M levels l f .op ≡ f .op) × (nextFrame M levels l f .queue ≡ f .queue))
+unfolding counted
+next-frame M levels l f =
+    frame-after M (counted f) (rowOf levels l f) (row-plain (pointOf (counted f .point)) (counted f) (level l) (level levels))

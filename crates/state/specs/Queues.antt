@@ -3,6 +3,7 @@ use Prim.Native.Nat.{ℕ, _≤_, _<_}
 use mathlib.Core.Path.{_≡_, refl, sym, ap, _∙_}
 use mathlib.Core.Logic.{_≢_, _⊎_, inl, inr}
 use mathlib.Core.Bool.{Bool, true, false, cond}
+use mathlib.Core.List.{List, [], _∷_}
 use lib.Dec.{ltb, eqb}
 use Rattle.words.specs.declared.Node.{Node}
 use Rattle.words.specs.declared.Sizes.{Sizes}
@@ -11,7 +12,7 @@ use Rattle.words.specs.declared.Word.{Word}
 use Rattle.words.specs.declared.Word.the-variants.{LevelNode, LevelQueue, Head, Tail, Next, Use}
 use Rattle.words.specs.Laws.{Bound}
 use Rattle.table.specs.declared.After.{After}
-use Rattle.table.specs.Table.{Row, loads, stores, frees}
+use Rattle.table.specs.Table.{Row, loads, stores, frees, nothing}
 use Rattle.lists.specs.Count.{hit}
 use Rattle.state.specs.Mem.{Mem}
 use Rattle.state.specs.Step.{State}
@@ -39,6 +40,13 @@ pub data Within (s : Sizes) (q : ℕ) (S : State) : Row → Type 0 where
   store : {w : Word} {v : ℕ} {after : After} → Bound s w → Mine s q S w v → Within s q S (stores w v after)
   free : {n : Node} {after : After} → s .queues < n .0 → n .0 ≤ s .nodes → own (s .queues) (S .mem .uses) q (n .0) ≡ 1
       → Within s q S (frees n after)
+
+-- the node that a row frees
+abbrev pub outOf : Row → List ℕ
+outOf (loads w after) = []
+outOf (stores w v after) = []
+outOf (frees n after) = n .0 ∷ []
+outOf nothing = []
 
 -- a level of which nothing moved, or of which nothing is queue q's, before and after
 pub data Alike (q : ℕ) (S T : State) (j : ℕ) : Type 0 where
