@@ -1,8 +1,10 @@
 -- What every row of the step table has in common: it keeps the frame's op and queue; an enqueue ends with its own node;
 -- a dequeue ends with a node only where it frees it, and else empty.
 use Prim.Native.Nat.{ℕ}
-use mathlib.Core.Path.{_≡_, refl}
-use mathlib.Core.Logic.{_⊎_, inl, inr}
+use mathlib.Core.Path.{_≡_, refl, sym, ap, _∙_}
+use mathlib.Core.Logic.{_≢_, _⊎_, inl, inr}
+use mathlib.Core.List.{List, [], _∷_}
+use native.Mathlib.Omega.{arith}
 use mathlib.Core.Bool.{Bool, true, false, cond}
 use lib.Dec.{eqb}
 use Rattle.words.specs.declared.Level.{Level}
@@ -50,6 +52,9 @@ use Rattle.table.specs.Points.{
   D6,
   D7,
   Unknown,
+  numberOf,
+  points,
+  pointIn,
   pointOf,
 }
 use Rattle.words.specs.Layout.{level}
@@ -65,11 +70,12 @@ pub data Plain (f : Frame) : After → Type 0 where
   empty : {n : Node} → n .0 ≡ 0 → Plain f (Done n)
   handed : {n : Node} → f .op ≡ 1 → n ≡ f .node → Plain f (Done n)
 
-pub data Plainly (f : Frame) : Row → Type 0 where
-  load : {w : Word} {after : ℕ → After} → ((x : ℕ) → Plain f (after x)) → Plainly f (loads w after)
-  store : {w : Word} {v : ℕ} {after : After} → Plain f after → Plainly f (stores w v after)
-  free : {n : Node} → Plainly f (frees n (Done n))
-  none : Plainly f nothing
+-- a row of the point p
+pub data Plainly (p : Point) (f : Frame) : Row → Type 0 where
+  load : {w : Word} {after : ℕ → After} → ((x : ℕ) → Plain f (after x)) → Plainly p f (loads w after)
+  store : {w : Word} {v : ℕ} {after : After} → Plain f after → Plainly p f (stores w v after)
+  free : {n : Node} → p ≡ D7 → n ≡ f .c → Plainly p f (frees n (Done n))
+  none : Plainly p f nothing
 
 -- a branch, by what it tests
 by-eq : {f : Frame} {a b : ℕ} {x y : After} → (a ≡ b → Plain f x) → Plain f y → Plain f (ifEq a b x y)
@@ -98,7 +104,7 @@ by f a (goes o q) = inr (o, q)
 by f a (empty e) = inl refl
 by f a (handed o e) = inl refl
 
-pub row-plain : (p : Point) (f : Frame) (l top : Level) → Plainly f (row p f l top)
+pub row-plain : (p : Point) (f : Frame) (l top : Level) → Plainly p f (row p f l top)
 unfolding row
 row-plain E1 f l top = store (goes refl refl)
 row-plain E2 f l top = store (below-k _ refl refl 7 3)
@@ -138,18 +144,18 @@ row-plain D3 f l top = load (λ x. by-eq (λ e. empty refl) (goes refl refl))
 row-plain D4 f l top = load (λ x. goes refl refl)
 row-plain D5 f l top = store (by-eq (λ e. goes refl refl) (goes refl refl))
 row-plain D6 f l top = store (goes refl refl)
-row-plain D7 f l top = free
+row-plain D7 f l top = free refl refl
 row-plain Unknown f l top = none
 
 -- ---- a frame's next frame
 
 -- the frame as it becomes has its queue still, or is none
-frame-after : (M : Mem) (f : Frame) (x : Row) → Plainly f x
+frame-after : (M : Mem) (p : Point) (f : Frame) (x : Row) → Plainly p f x
     → (frameAfter (then M x f) .op ≡ 0) ⊎ ((frameAfter (then M x f) .op ≡ f .op) × (frameAfter (then M x f) .queue ≡ f .queue))
-frame-after M f x (load {w = w} h) = by f _ (h (look M w))
-frame-after M f x (store h) = by f _ h
-frame-after M f x free = inl refl
-frame-after M f x none = inr (refl, refl)
+frame-after M p f x (load {w = w} h) = by f _ (h (look M w))
+frame-after M p f x (store h) = by f _ h
+frame-after M p f x (free d e) = inl refl
+frame-after M p f x none = inr (refl, refl)
 
 -- the frame after a step
 abbrev pub nextFrame : Mem → ℕ → ℕ → Frame → Frame
@@ -159,4 +165,19 @@ pub next-frame : (M : Mem) (levels l : ℕ) (f : Frame)
     → (nextFrame M levels l f .op ≡ 0) ⊎ ((nextFrame M levels l f .op ≡ f .op) × (nextFrame M levels l f .queue ≡ f .queue))
 unfolding counted
 next-frame M levels l f =
-    frame-after M (counted f) (rowOf levels l f) (row-plain (pointOf (counted f .point)) (counted f) (level l) (level levels))
+    frame-after M (pointOf (counted f .point)) (counted f) (rowOf levels l f) (row-plain (pointOf (counted f .point)) (counted f) (level l) (level levels))
+
+-- ---- the point of a number
+
+in-number : (xs : List Point) (n : ℕ) (x : Point) → pointIn xs n ≡ x → x ≢ Unknown → n ≡ numberOf x
+in-number [] n x e ne = absurd (ne (sym e))
+in-number (y ∷ ys) n x e ne = by (eqb n (numberOf y)) (same? n (numberOf y)) e (in-number ys n x)
+  where
+    by : (t : Bool) → Same n (numberOf y) t → cond t y (pointIn ys n) ≡ x → (pointIn ys n ≡ x → x ≢ Unknown → n ≡ numberOf x) → n ≡ numberOf x
+    by true (same h) e ih = h ∙ ap numberOf e
+    by false (apart h) e ih = ih e ne
+
+-- a number that stands for D7 is D7's
+pub number-D7 : (n : ℕ) → pointOf n ≡ D7 → n ≡ 37
+unfolding pointOf
+number-D7 n e = in-number points n D7 e (λ z. (let w : _≡_ {A = ℕ} 0 1 = cc in omega arith))
