@@ -5,4 +5,6 @@ pub mod Apart
 pub mod Alone
 pub mod World
 pub mod Bridge
+pub mod Keeps
 pub mod Steps
+pub mod Runs

@@ -6,13 +6,16 @@ use mathlib.Core.Logic.{_≢_, _⊎_, inl, inr}
 use mathlib.Core.Bool.{Bool, true, false, cond, not, _&&_}
 use mathlib.Core.List.{List, [], _∷_, _++_}
 use native.Mathlib.Omega.{arith}
-use lib.Dec.{ltb, eqb}
-use borrow.Author.Tests.{eq-eqb, ne-eqb}
+use lib.Dec.{leb, eqb}
+use borrow.Author.Tests.{eq-eqb, ne-eqb, le-leb, lt-leb}
 use Rattle.words.specs.declared.Level.{Level}
 use Rattle.words.specs.declared.Sizes.{Sizes}
 use Rattle.words.specs.declared.Frame.{Frame}
 use Rattle.words.specs.declared.Measured.the-variants.{Sized}
-use Rattle.words.specs.Layout.{level, measured, frameOf}
+use Rattle.words.specs.declared.Word.{Word}
+use Rattle.words.specs.declared.Word.the-variants.{LevelNode, LevelQueue, Head, Tail, Next, Use}
+use Rattle.words.specs.Layout.{level, within, measured, frameOf}
+use Rattle.words.specs.Laws.{within-is}
 use Rattle.answers.specs.declared.End.{End}
 use Rattle.table.specs.declared.After.{After}
 use Rattle.table.specs.declared.After.the-variants.{Go, Done}
@@ -22,16 +25,18 @@ use Rattle.table.specs.Table.{Row, row}
 use Rattle.answers.specs.Said.{Said, refused, says, Step}
 use Rattle.steps.specs.declared.Served.{Served}
 use Rattle.steps.specs.declared.Served.the-variants.{At, Nobody}
-use Rattle.steps.specs.Step.{serving, endOf, stepSized}
-use Rattle.lists.specs.Count.{Same, same, apart, same?, cnt}
-use Rattle.lists.specs.Beginning.{Beginning}
-use Rattle.state.specs.Mem.{Mem, look}
-use Rattle.state.specs.Step.{State, then, rowOf, stepped}
-use Rattle.state.specs.View.{memory, frames, frame-is}
-use Rattle.state.specs.Queues.{own, Within, load, store, free, outOf}
+use Rattle.steps.specs.Step.{serving, strays, sound, endOf, performed, stepFrame, stepServed, stepSized}
+use Rattle.lists.specs.Count.{Same, same, apart, same?, cnt, counts}
+use Rattle.lists.specs.Beginning.{Beginning, begins-same}
+use Rattle.state.specs.Mem.{Mem, look, upd}
+use Rattle.state.specs.Step.{State, memAfter, then, rowOf, stepped}
+use Rattle.state.specs.View.{memory, frames, frame-is, frame-idle}
+use Rattle.state.specs.Queues.{On, own, Mine, Within, load, store, free, outOf}
 use Rattle.demand.specs.World.{Invariant, World, Moving, world-step}
 use Rattle.demand.specs.Rows.{Plain, goes, empty, handed, Plainly, row-plain, number-D7}
-use Rattle.demand.specs.Bridge.{stateOf, saysOf}
+use Rattle.demand.specs.Apart.{own-use, own-put, own-freed}
+use Rattle.demand.specs.Bridge.{stateOf, saysOf, Bridged, performed-is}
+use Rattle.demand.specs.Keeps.{Keeps}
 use Rattle.demand.specs.History.{returnedAtEnd, returnedByStep}
 
 -- ---- the level that a step serves
@@ -107,3 +112,143 @@ module _ (l : Level) (M : Mem) (f : Frame) where
   returns-out s q S p x (load b) (Plainly.load {w = w} h) k d = plain-none q _ (h (look M w))
   returns-out s q S p x (store b m) (Plainly.store h) k d = plain-none q _ h
   returns-out s q S p x (free low high o) (Plainly.free {n = n} z e) k d = its-node q (endOf l f n) (d z) k (omega arith)
+
+-- ---- what one step does
+
+-- refusal 10 asks nothing of a frame that the invariant does not give
+sound-is : (s : Sizes) (f : Frame) → f .op ≤ 2 → (f .op ≡ 1 → f .point < 31) → (1 ≤ f .queue .0) × (f .queue .0 ≤ s .queues)
+    → sound s (counted f) ≡ true
+unfolding sound strays counted
+sound-is s f o p b = simp (le-leb (f .op) 2 o, within-is 1 (s .queues) (f .queue .0) (b .0) (b .1)) (by (eqb (f .op) 1) (same? (f .op) 1))
+  where
+    by : (a : Bool) → Same (f .op) 1 a → not (a && leb 31 (f .point)) && true ≡ true
+    by true (same e) = rw (lt-leb 31 (f .point) (p e))
+    by false (apart e) = refl
+
+-- a store changes no use word
+use-stored : (s : Sizes) (q : ℕ) (S : State) (w : Word) (v : ℕ) → Mine s q S w v → upd (S .mem) w v .uses ≡ S .mem .uses
+use-stored s q S (LevelNode j) v m = refl
+use-stored s q S (LevelQueue j) v m = refl
+use-stored s q S (Head j) v m = refl
+use-stored s q S (Tail j) v m = refl
+use-stored s q S (Next j) v m = refl
+use-stored s q S (Use j) v m = absurd m
+
+-- the node that a row frees leaves its queue; no other does, and none of another queue
+module _ (s : Sizes) (q : ℕ) (S : State) (some : 1 ≤ q) (y : ℕ) where
+  abbrev owned : Mem → ℕ
+  owned M = own (s .queues) (M .uses) q y
+
+  out-balance : (x : Row) → Within s q S x → owned (memAfter (S .mem) x) + cnt y (outOf x) ≡ owned (S .mem)
+  out-balance x (load b) = simp counts (omega arith)
+  out-balance x (store {w = w} {v = v} b m) = rw (use-stored s q S w v m) (simp counts (omega arith))
+  out-balance x (free {n = n} low high o) =
+      let e = own-freed (s .queues) (S .mem .uses) q (n .0) some low (own-use (s .queues) (S .mem .uses) q (n .0) low o) y in
+      simp counts (omega arith)
+
+  others-balance : (r : ℕ) (x : Row) → q ≢ r → Within s r S x → owned (memAfter (S .mem) x) ≡ owned (S .mem)
+  others-balance r x ne (load b) = refl
+  others-balance r x ne (store {w = w} {v = v} b m) = rw (use-stored s r S w v m)
+  others-balance r x ne (free {n = n} low high o) =
+      own-put (s .queues) (S .mem .uses) q (n .0) 0 (λ e. ne (sym e ∙ own-use (s .queues) (S .mem .uses) r (n .0) low o))
+      (λ e. omega arith) y
+
+module _ (I : Invariant) where
+  pub data Outcome (s : Sizes) (t : List ℕ) (fronts : ℕ → List ℕ) : Type 0 where
+    idle : stepSized s t ≡ (refused 9, t) → ((j : ℕ) → frames s t j .op ≡ 0) → Outcome s t fronts
+    took : (x : Step) (u : List ℕ) → stepSized s t ≡ (says x, u) → Keeps I s t fronts (λ q. returnedByStep q x) (λ q. []) u → Outcome s t fronts
+
+  module _ (s : Sizes) (t : List ℕ) (fronts : ℕ → List ℕ) (m : measured t ≡ Sized s) (w : World I s (stateOf s t) fronts) where
+    -- the frame at level l is served
+    module _ (l : ℕ) (low : l < s .levels) (run : frameOf s t (level l) .op ≢ 0)
+        (top : (j : ℕ) → l < j → j < s .levels → frameOf s t (level j) .op ≡ 0) where
+      abbrev f : Frame
+      f = frames s t l
+
+      abbrev q : ℕ
+      q = frames s t l .queue .0
+
+      abbrev x : Row
+      x = rowOf (s .levels) l (frames s t l)
+
+      abbrev a : After
+      a = then (memory s t) (rowOf (s .levels) l (frames s t l)) (counted (frames s t l))
+
+      running : On q (frames s t l)
+      running = (rw (frame-is s t l low) run, refl)
+
+      somewhere : (1 ≤ q) × (q ≤ s .queues)
+      somewhere = w .on-some l (running .0)
+
+      k : Moving I s (stateOf s t) fronts l q
+      k = world-step I s (stateOf s t) fronts w l q low running (λ j h. frame-idle s t j (top j h))
+
+      plain : Plainly (pointOf (counted f .point)) (counted f) x
+      plain = row-plain (pointOf (counted f .point)) (counted f) (level l) (level (s .levels))
+
+      -- only a dequeue comes to D7
+      dequeues : pointOf (counted f .point) ≡ D7 → counted f .op ≡ 2
+      unfolding counted
+      dequeues e =
+          let o = k .op in
+          let p = number-D7 (f .point) e in
+          by (eqb (f .op) 1) (same? (f .op) 1)
+        where
+          by : (b : Bool) → Same (f .op) 1 b → f .op ≡ 2
+          by true (same z) = absurd (omega (arith, k .point z, number-D7 (f .point) e))
+          by false (apart z) = let o = k .op in let r = running .0 in omega arith
+
+      took-from : (u : List ℕ) → Bridged s t u l (counted f) x → Keeps I s t fronts (λ r. returnedByStep r (saysOf (level l) (counted f) a)) (λ r. []) u
+      unfolding counted
+      took-from u b =
+          record { sized = b .sized; fronts′ = k .fronts′; world = rw state (k .world); begins = begins; balance = balance }
+        where
+          state : stateOf s u ≡ stepped (s .levels) l (stateOf s t)
+          state = λ i. record { mem = b .mem i; frames = b .frames-are i }
+
+          given : Step
+          given = saysOf (level l) (counted f) a
+
+          here : returnedByStep q given ≡ outOf x
+          here = returns-out (level l) (memory s t) (counted f) s q (stateOf s t) (pointOf (f .point)) x (k .within) plain refl dequeues
+
+          there : (r : ℕ) → r ≢ q → returnedByStep r given ≡ []
+          there r ne = returns-none (level l) (memory s t) (counted f) r a (λ e. ne (sym e))
+
+          begins : (r : ℕ) → Beginning (fronts r) (returnedByStep r given ++ k .fronts′ r)
+          begins r = by (eqb r q) (same? r q)
+            where
+              by : (c : Bool) → Same r q c → Beginning (fronts r) (returnedByStep r given ++ k .fronts′ r)
+              by true (same e) = rw (e, here) (k .begins)
+              by false (apart e) = rw (there r e, k .others r e) (begins-same (fronts r))
+
+          balance : (r : ℕ) → 1 ≤ r → (y : ℕ)
+              → own (s .queues) (memory s u .uses) r y + cnt y (returnedByStep r given) ≡ own (s .queues) (memory s t .uses) r y + cnt y []
+          balance r some y = by (eqb r q) (same? r q)
+            where
+              by : (c : Bool) → Same r q c
+                  → own (s .queues) (memory s u .uses) r y + cnt y (returnedByStep r given) ≡ own (s .queues) (memory s t .uses) r y + cnt y []
+              by true (same e) = let o = out-balance s q (stateOf s t) (somewhere .0) y x (k .within) in rw (e, here, b .mem) (simp counts (omega arith))
+              by false (apart e) =
+                  let o = others-balance s r (stateOf s t) some y q x e (k .within) in rw (there r e, b .mem) (simp counts (omega arith))
+
+      took-at : (y : Step) × (u : List ℕ) × (stepServed s t (At (level l)) ≡ (says y, u)) × Keeps I s t fronts (λ r. returnedByStep r y) (λ r. []) u
+      unfolding stepServed stepFrame
+      took-at =
+          let e = sym (frame-is s t l low) in
+          let done = performed-is s l low t m q (stateOf s t) (counted f) x (k .within) in (
+            saysOf (level l) (counted f) a,
+            done .0,
+            ap (λ (g : Frame). stepFrame s t (level l) (counted g)) e ∙ rw (sound-is s f (k .op) (k .point) somewhere) (done .1),
+            took-from (done .0) (done .2),
+          )
+
+    -- a step of a table in which all queues are sound
+    pub step-taken : Outcome s t fronts
+    unfolding stepSized stepServed
+    step-taken = by (serving s t (s .levels)) refl (served s t (s .levels))
+      where
+        by : (v : Served) → serving s t (s .levels) ≡ v → Serves s t (s .levels) v → Outcome s t fronts
+        by v e (nobody h) = idle (rw e) (λ j. frame-idle s t j (h j))
+        by v e (serves l low run top) =
+            let k = took-at l low run top in took (k .0) (k .1) (rw e (k .2)) (k .3)

@@ -13,9 +13,10 @@ use Rattle.words.specs.declared.Frame.{Frame}
 use Rattle.words.specs.declared.Word.{Word}
 use Rattle.words.specs.declared.Word.the-variants.{LevelNode, LevelQueue, Head, Tail, Next, Use}
 use Rattle.words.specs.Layout.{level, queue, node}
-use Rattle.table.specs.Points.{pointOf}
 use Rattle.table.specs.Frames.{counted}
 use Rattle.table.specs.Table.{Row}
+use Rattle.table.specs.Points.{E1, D1}
+use Rattle.begins.specs.Begin.{begun}
 use Rattle.lists.specs.Count.{Same, same, apart, same?, cnt}
 use Rattle.lists.specs.Beginning.{Beginning, without, begins-same}
 use Rattle.chains.specs.Member.{Last}
@@ -49,12 +50,29 @@ pub record Chained (s : Sizes) (q : ℕ) (S : State) (front : List ℕ) : Type 0
 abbrev pub IdleFrom : ℕ → State → Type 0
 IdleFrom l S = (j : ℕ) → l ≤ j → S .frames j .op ≡ 0
 
+-- S with an operation begun at level l
+abbrev pub enqueueBegun : State → ℕ → ℕ → ℕ → State
+enqueueBegun S l q n =
+    record { mem = upd (S .mem) (Use (node n)) q; frames = put (S .frames) l (begun 1 E1 (queue q) (node n)) }
+
+abbrev pub dequeueBegun : State → ℕ → ℕ → State
+dequeueBegun S l q = record { mem = S .mem; frames = put (S .frames) l (begun 2 D1 (queue q) (node 0)) }
+
 pub record Invariant : Type 1 where
   pub Sound : Sizes → ℕ → State → List ℕ → Type 0
   pub apart : (s : Sizes) (q : ℕ) (S T : State) (front : List ℕ) → Apart s q S T → Sound s q S front → Sound s q T front
   pub registered : (s : Sizes) (q : ℕ) (S : State) (front : List ℕ) → Sound s q S front → (j : ℕ) → S .mem .lq j ≡ q → On q (S .frames j)
   pub step : (s : Sizes) (q : ℕ) (S : State) (front : List ℕ) → Sound s q S front → (l : ℕ) → l < s .levels → On q (S .frames l)
       → ((j : ℕ) → l < j → S .frames j .op ≡ 0) → Stepping s q S l front (Sound s q)
+  -- a begin at level l, where no frame runs from there on: an enqueue of a free node that points to none, a dequeue where no other dequeue is on q
+  pub enqueue : (s : Sizes) (q : ℕ) (S : State) (front : List ℕ) → Sound s q S front → (l n : ℕ) → l < s .levels → IdleFrom l S → s .queues < n
+      → n ≤ s .nodes → S .mem .uses n ≡ 0 → S .mem .next n ≡ 0 → Sound s q (enqueueBegun S l q n) front
+  pub dequeue : (s : Sizes) (q : ℕ) (S : State) (front : List ℕ) → Sound s q S front → (l : ℕ) → l < s .levels → IdleFrom l S
+      → ((j : ℕ) → S .frames j .op ≡ 2 → S .frames j .queue .0 ≢ q) → Sound s q (dequeueBegun S l q) front
+  -- a queue on which no frame runs
+  pub quiet : (s : Sizes) (q : ℕ) (S : State) (front : List ℕ) → Sound s q S front → ((j : ℕ) → ¬ On q (S .frames j)) → Chained s q S front
+  pub start : (s : Sizes) (q : ℕ) (S : State) (front : List ℕ) → 1 ≤ q → q ≤ s .queues → s .queues ≤ s .nodes → ((j : ℕ) → ¬ On q (S .frames j))
+      → ((j : ℕ) → S .mem .lq j ≢ q) → ((n : ℕ) → s .nodes < n → S .mem .uses n ≡ 0) → Chained s q S front → Sound s q S front
 
 -- ---- all queues
 
@@ -142,3 +160,50 @@ module _ (I : Invariant) where
           by true (same e) = rw (e, put-same (S .mem .next) (j .0) 0)
           by false (apart e) =
               put-other (S .mem .next) (j .0) 0 n e ∙ w .free-ends n h (sym (put-other (S .mem .uses) (j .0) 0 n e) ∙ u)
+
+  -- a begin on queue q at level l
+  module _ (s : Sizes) (S : State) (fronts : ℕ → List ℕ) (w : World s S fronts) (l q : ℕ) (low : l < s .levels) (idle : IdleFrom l S)
+      (some : 1 ≤ q) (known : q ≤ s .queues) where
+    nobody : (r : ℕ) → ¬ On r (S .frames l)
+    nobody r h = h .0 (idle l (omega arith))
+
+    -- for all queues, where it holds for q, and nothing of another queue moved
+    begun-sound : (T : State) → I .Sound s q T (fronts q) → ((r : ℕ) → 1 ≤ r → r ≢ q → ((j : ℕ) → S .mem .lq j ≡ r → On r (S .frames j)) → Apart s r S T)
+        → (r : ℕ) → 1 ≤ r → r ≤ s .queues → I .Sound s r T (fronts r)
+    begun-sound T here there r a b = by (eqb r q) (same? r q)
+      where
+        by : (t : Bool) → Same r q t → I .Sound s r T (fronts r)
+        by true (same e) = rw e here
+        by false (apart e) =
+            I .apart s r S T (fronts r) (there r a e (I .registered s r S (fronts r) (w .sound r a b))) (w .sound r a b)
+
+    begun-on : (f : Frame) → f .queue .0 ≡ q → (j : ℕ) → put (S .frames) l f j .op ≢ 0
+        → (1 ≤ put (S .frames) l f j .queue .0) × (put (S .frames) l f j .queue .0 ≤ s .queues)
+    begun-on f e j run = by (eqb j l) (same? j l)
+      where
+        by : (t : Bool) → Same j l t → (1 ≤ put (S .frames) l f j .queue .0) × (put (S .frames) l f j .queue .0 ≤ s .queues)
+        by true (same z) = rw (z, put-same (S .frames) l f, e) (some, known)
+        by false (apart z) = rw (put-other (S .frames) l f j z) (w .on-some j (rw (put-other (S .frames) l f j z) at run))
+
+    pub world-enqueue : (n : ℕ) → s .queues < n → n ≤ s .nodes → S .mem .uses n ≡ 0 → World s (enqueueBegun S l q n) fronts
+    world-enqueue n user real unused =
+        record {
+          sound =
+              begun-sound (enqueueBegun S l q n)
+              (I .enqueue s q S (fronts q) (w .sound q some known) l n low idle user real unused (w .free-ends n user unused))
+              (λ r a e reg. apart-enqueue s r q S a e reg l n (begun 1 E1 (queue q) (node n)) (nobody r) (omega arith, refl) unused);
+          on-some = begun-on (begun 1 E1 (queue q) (node n)) refl;
+          free-ends =
+              λ m h u. w .free-ends m h
+              (sym (put-other (S .mem .uses) n q m (λ e. omega (arith, sym (put-same (S .mem .uses) n q) ∙ sym (ap (put (S .mem .uses) n q) e) ∙ u))) ∙ u);
+        }
+
+    pub world-dequeue : ((j : ℕ) → S .frames j .op ≡ 2 → S .frames j .queue .0 ≢ q) → World s (dequeueBegun S l q) fronts
+    world-dequeue only =
+        record {
+          sound =
+              begun-sound (dequeueBegun S l q) (I .dequeue s q S (fronts q) (w .sound q some known) l low idle only)
+              (λ r a e reg. apart-dequeue s r q S a e reg l (begun 2 D1 (queue q) (node 0)) (nobody r) (omega arith, refl));
+          on-some = begun-on (begun 2 D1 (queue q) (node 0)) refl;
+          free-ends = w .free-ends;
+        }
