@@ -8,3 +8,5 @@ pub mod Bridge
 pub mod Keeps
 pub mod Steps
 pub mod Runs
+pub mod Begins
+pub mod Kept

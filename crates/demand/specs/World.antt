@@ -15,7 +15,7 @@ use Rattle.words.specs.declared.Word.the-variants.{LevelNode, LevelQueue, Head,
 use Rattle.words.specs.Layout.{level, queue, node}
 use Rattle.table.specs.Frames.{counted}
 use Rattle.table.specs.Table.{Row}
-use Rattle.table.specs.Points.{E1, D1}
+use Rattle.table.specs.Points.{E1, D1, D3, numberOf}
 use Rattle.begins.specs.Begin.{begun}
 use Rattle.lists.specs.Count.{Same, same, apart, same?, cnt}
 use Rattle.lists.specs.Beginning.{Beginning, without, begins-same}
@@ -37,6 +37,7 @@ pub record Stepping (s : Sizes) (q : ℕ) (S : State) (l : ℕ) (front : List �
   pub front′ : List ℕ
   pub sound : Sound (stepped (s .levels) l S) front′
   pub begins : Beginning front (outOf (rowOf (s .levels) l (S .frames l)) ++ front′)
+  pub linked : S .frames l .point ≡ numberOf D3 → S .mem .next (S .frames l .c .0) ≢ 0
 
 -- a quiet queue: its nodes in a chain from head to tail
 pub record Chained (s : Sizes) (q : ℕ) (S : State) (front : List ℕ) : Type 0 where
@@ -93,6 +94,7 @@ module _ (I : Invariant) where
     pub world : World s (stepped (s .levels) l S) fronts′
     pub begins : Beginning (fronts q) (outOf (rowOf (s .levels) l (S .frames l)) ++ fronts′ q)
     pub others : (r : ℕ) → r ≢ q → fronts′ r ≡ fronts r
+    pub linked : S .frames l .point ≡ numberOf D3 → S .mem .next (S .frames l .c .0) ≢ 0
 
   pub world-step : (s : Sizes) (S : State) (fronts : ℕ → List ℕ) → World s S fronts → (l q : ℕ) → l < s .levels → On q (S .frames l)
       → ((j : ℕ) → l < j → S .frames j .op ≡ 0) → Moving s S fronts l q
@@ -105,6 +107,7 @@ module _ (I : Invariant) where
         world = record { sound = sound; on-some = on-some; free-ends = free-ends (rowOf (s .levels) l f) (k .within) };
         begins = rw (put-same fronts q (k .front′)) (k .begins);
         others = λ r ne. put-other fronts q (k .front′) r ne;
+        linked = k .linked;
       }
     where
       f : Frame
