@@ -22,7 +22,7 @@ use Rattle.conditions.specs.declared.Sought.{Sought}
 use Rattle.conditions.specs.declared.Sought.the-variants.{Running, RunningOn, DequeueOn}
 use Rattle.conditions.specs.Conditions.{firstOf, sought, some, noLevel, noQueue, noNode, busy, inUse, dequeued, unquiet}
 use Rattle.conditions.specs.Laws.{has-level, has-queue, has-node}
-use Rattle.begins.specs.Begin.{begun, unless, enqueueWhy, enqueueMeasured, enqueueOf, dequeueWhy, dequeueMeasured, dequeueOf}
+use Rattle.begins.specs.Begin.{begun, unless, enqueueWhy, enqueueSized, enqueueMeasured, enqueueOf, dequeueWhy, dequeueSized, dequeueMeasured, dequeueOf}
 use Rattle.lists.specs.Count.{Same, same, apart, same?, cnt, counts}
 use Rattle.lists.specs.Beginning.{begins-same}
 use Rattle.state.specs.Mem.{Mem, put, upd}
@@ -41,7 +41,7 @@ no-first : (r : ℕ) (b : Bool) (rest : ℕ) → cond b (suc r) rest ≡ 0 → (
 no-first r true rest h = absurd (omega arith)
 no-first r false rest h = (refl, h)
 
-none-of : (s : Sizes) (t : List ℕ) (w : Sought) (i n : ℕ) → some s t w i n ≡ false → (j : ℕ) → i ≤ j → j < i + n
+pub none-of : (s : Sizes) (t : List ℕ) (w : Sought) (i n : ℕ) → some s t w i n ≡ false → (j : ℕ) → i ≤ j → j < i + n
     → sought w (frameOf s t (level j)) ≡ false
 unfolding some
 none-of s t w i zero h j a b = absurd (omega arith)
@@ -113,7 +113,7 @@ module _ (s : Sizes) (t : List ℕ) (m : measured t ≡ Sized s) (l : Level) whe
       by false e = absurd (omega (arith, idle j (ltb-false j (l .0) e)))
 
   pub can-enqueue : (q : Queue) (n : Node) (u : List ℕ) → enqueueOf t l q n ≡ (says tt, u) → CanEnqueue s t l q n u
-  unfolding enqueueOf enqueueMeasured enqueueWhy noQueue noNode inUse
+  unfolding enqueueOf enqueueMeasured enqueueSized enqueueWhy noQueue noNode inUse
   can-enqueue q n u h =
       let a = accepted (enqueueWhy s t l q n) t (wr s (putFrame s t l (begun 1 E1 q n)) (Use n) (q .0)) u (rw m at h) in
       let e3 = no-first 2 (noLevel s l) _ (a .0) in
@@ -136,7 +136,7 @@ module _ (s : Sizes) (t : List ℕ) (m : measured t ≡ Sized s) (l : Level) whe
       }
 
   pub can-dequeue : (q : Queue) (u : List ℕ) → dequeueOf t l q ≡ (says tt, u) → CanDequeue s t l q u
-  unfolding dequeueOf dequeueMeasured dequeueWhy noQueue
+  unfolding dequeueOf dequeueMeasured dequeueSized dequeueWhy noQueue
   can-dequeue q u h =
       let a = accepted (dequeueWhy s t l q) t (putFrame s t l (begun 2 D1 q (node 0))) u (rw m at h) in
       let e3 = no-first 2 (noLevel s l) _ (a .0) in

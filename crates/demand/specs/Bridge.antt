@@ -16,7 +16,7 @@ use Rattle.words.specs.declared.Word.{Word}
 use Rattle.words.specs.declared.Word.the-variants.{LevelNode, LevelQueue, Head, Tail, Next, Use}
 use Rattle.words.specs.Layout.{level, queue, node, words, within, measured, has, rd, wr, frameOf, putFrame, noFrame}
 use Rattle.words.specs.Laws.{Bound, within-is, wr-length, measured-wr, measured-put, measured-fits}
-use Rattle.answers.specs.Said.{Said, says, Step, going-on, ended}
+use Rattle.answers.specs.Said.{Said, refused, says, Step, going-on, ended}
 use Rattle.table.specs.declared.After.{After}
 use Rattle.table.specs.declared.After.the-variants.{Go, Done}
 use Rattle.table.specs.Frames.{counted}
@@ -101,3 +101,21 @@ module _ (s : Sizes) (l : ℕ) (low : l < s .levels) where
             (memory-wr s v room′ (Use n) k 0 ∙ ap (λ (M : Mem). upd M (Use n) 0) (memory-wr s t room (Next n) h 0))
             (frames-wr s v room′ (Use n) k 0 ∙ frames-wr s t room (Next n) h 0),
       )
+
+-- ---- answers
+
+-- two answers of one call
+pub same-said : {A : Type 0} {x y : A} {t u : List ℕ} → _≡_ {A = Said A × List ℕ} (says x, t) (says y, u) → (x ≡ y) × (t ≡ u)
+same-said {A} {x} {y} {t} {u} e =
+    let z : _≡_ {A = Said A} (says x) (says y) = ap (λ (o : Said A × List ℕ). o .0) e in
+    (cc, ap (λ (o : Said A × List ℕ). o .1) e)
+
+pub no-answer : {A : Type 0} {r : ℕ} {y : A} {t u : List ℕ} → _≡_ {A = Said A × List ℕ} (refused r, t) (says y, u) → ⊥
+no-answer {A} {r} {y} e =
+    let z : _≡_ {A = Said A} (refused r) (says y) = ap (λ (o : Said A × List ℕ). o .0) e in
+    let w : _≡_ {A = ℕ} 0 1 = cc in
+    omega arith
+
+-- two refusals with different numbers
+pub other-number : {A : Type 0} {a b : ℕ} → _≡_ {A = Said A} (refused a) (refused b) → a ≢ b → ⊥
+other-number e ne = ne cc

@@ -1,16 +1,17 @@
 -- Histories: every accepted call keeps all queues, and so does any number of them.
 use Prim.Native.Nat.{ℕ, zero, suc, _+_}
 use mathlib.Core.Path.{_≡_, refl, sym, ap, _∙_, subst}
+use mathlib.Core.Logic.{_≢_}
 use mathlib.Core.List.{List, [], _∷_, _++_}
 use native.Mathlib.Omega.{arith}
 use Rattle.words.specs.declared.Sizes.{Sizes}
 use Rattle.words.specs.declared.Measured.the-variants.{Sized}
 use Rattle.words.specs.Layout.{measured}
-use Rattle.answers.specs.Said.{Said, refused, says, Step, Run}
+use Rattle.answers.specs.Said.{Said, refused, says, Step, Run, after, refusal-10}
 use Rattle.steps.specs.Step.{stepMeasured, stepOf, stepSized}
 use Rattle.steps.specs.Run.{runFrom, runMeasured, runOf}
 use Rattle.demand.specs.World.{Invariant, World}
-use Rattle.demand.specs.Bridge.{stateOf}
+use Rattle.demand.specs.Bridge.{stateOf, same-said, no-answer, other-number}
 use Rattle.demand.specs.Keeps.{Keeps, keeps-same, keeps-then}
 use Rattle.demand.specs.Steps.{Outcome, idle, took, step-taken}
 use Rattle.demand.specs.Runs.{RunKept, run-kept}
@@ -33,25 +34,13 @@ use Rattle.demand.specs.History.{
   all,
 }
 
-step-of : (s : Sizes) (t : List ℕ) → measured t ≡ Sized s → stepOf t ≡ stepSized s t
+pub step-of : (s : Sizes) (t : List ℕ) → measured t ≡ Sized s → stepOf t ≡ stepSized s t
 unfolding stepOf stepMeasured
 step-of s t m = rw m
 
-run-of : (s : Sizes) (budget : ℕ) (t : List ℕ) → measured t ≡ Sized s → runOf budget t ≡ runFrom s budget 0 t
+pub run-of : (s : Sizes) (budget : ℕ) (t : List ℕ) → measured t ≡ Sized s → runOf budget t ≡ runFrom s budget 0 t
 unfolding runOf runMeasured
 run-of s budget t m = rw m
-
--- two answers of one call
-same-said : {A : Type 0} {x y : A} {t u : List ℕ} → _≡_ {A = Said A × List ℕ} (says x, t) (says y, u) → (x ≡ y) × (t ≡ u)
-same-said {A} {x} {y} {t} {u} e =
-    let z : _≡_ {A = Said A} (says x) (says y) = ap (λ (o : Said A × List ℕ). o .0) e in
-    (cc, ap (λ (o : Said A × List ℕ). o .1) e)
-
-no-answer : {A : Type 0} {r : ℕ} {y : A} {t u : List ℕ} → _≡_ {A = Said A × List ℕ} (refused r, t) (says y, u) → ⊥
-no-answer {A} {r} {y} e =
-    let z : _≡_ {A = Said A} (refused r) (says y) = ap (λ (o : Said A × List ℕ). o .0) e in
-    let w : _≡_ {A = ℕ} 0 1 = cc in
-    omega arith
 
 module _ (I : Invariant) (s : Sizes) where
   pub accepted-kept : (t u : List ℕ) (e : Event) (fronts : ℕ → List ℕ) → measured t ≡ Sized s → World I s (stateOf s t) fronts → Accepted t u e
@@ -77,3 +66,17 @@ module _ (I : Invariant) (s : Sizes) where
       let k = accepted-kept t u e fronts m w a in
       keeps-then I s t u v fronts (λ q. returnedBy q e) (λ q. handedBy q e) (λ q. all (returnedBy q) fs) (λ q. all (handedBy q) fs) k
       (history-kept u v fs (k .fronts′) (k .sized) (k .world) h)
+
+  -- refusal 10 never comes
+  module _ (t : List ℕ) (fronts : ℕ → List ℕ) (m : measured t ≡ Sized s) (w : World I s (stateOf s t) fronts) where
+    pub step-unharmed : stepOf t .0 ≢ refused 10
+    step-unharmed = rw (step-of s t m) (by (step-taken I s t fronts m w))
+      where
+        by : Outcome I s t fronts → stepSized s t .0 ≢ refused 10
+        by (idle e h) = rw e (λ z. other-number z (omega arith))
+        by (took x u e k) = rw e (λ z. (let y : _≡_ {A = ℕ} 0 1 = cc in omega arith))
+
+    pub run-unharmed : (budget n : ℕ) → runOf budget t .0 ≢ says (after n refusal-10)
+    run-unharmed budget n =
+        let r = run-kept I s budget 0 t fronts m w in
+        rw (run-of s budget t m, r .is) (λ z. r .unharmed n cc)

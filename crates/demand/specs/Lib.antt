@@ -10,3 +10,8 @@ pub mod Steps
 pub mod Runs
 pub mod Begins
 pub mod Kept
+pub mod Quiet
+pub mod Fresh
+pub mod Moments
+pub mod Dequeue
+pub mod Proof

@@ -58,7 +58,8 @@ use Rattle.table.specs.Points.{
   pointOf,
 }
 use Rattle.words.specs.Layout.{level}
-use Rattle.table.specs.Frames.{counted, ifEq, belowKTo, belowMTo, walkTo}
+use Rattle.table.specs.Laws.{point-is, if-other}
+use Rattle.table.specs.Frames.{at, counted, ifEq, belowKTo, belowMTo, walkTo}
 use Rattle.table.specs.Table.{Row, loads, stores, frees, nothing, row}
 use Rattle.state.specs.Mem.{Mem, look}
 use Rattle.state.specs.Step.{then, frameAfter, rowOf}
@@ -167,6 +168,23 @@ unfolding counted
 next-frame M levels l f =
     frame-after M (pointOf (counted f .point)) (counted f) (rowOf levels l f) (row-plain (pointOf (counted f .point)) (counted f) (level l) (level levels))
 
+-- a frame that goes on has its op and queue still
+plain-go : (f g : Frame) (a : After) → Plain f a → a ≡ Go g → (g .op ≡ f .op) × (g .queue ≡ f .queue)
+plain-go f g a (goes {g = h} o q) e = let z : h ≡ g = cc in (rw (← z) o, rw (← z) q)
+plain-go f g a (empty n) e = let z : _≡_ {A = ℕ} 0 1 = cc in absurd (omega arith)
+plain-go f g a (handed o n) e = let z : _≡_ {A = ℕ} 0 1 = cc in absurd (omega arith)
+
+pub goes-on : (M : Mem) (levels l : ℕ) (f g : Frame) → then M (rowOf levels l f) (counted f) ≡ Go g → (g .op ≡ f .op) × (g .queue ≡ f .queue)
+unfolding counted
+goes-on M levels l f g e =
+    by (rowOf levels l f) (row-plain (pointOf (counted f .point)) (counted f) (level l) (level levels)) e
+  where
+    by : (x : Row) → Plainly (pointOf (counted f .point)) (counted f) x → then M x (counted f) ≡ Go g → (g .op ≡ f .op) × (g .queue ≡ f .queue)
+    by x (load {w = w} h) e = plain-go (counted f) g _ (h (look M w)) e
+    by x (store h) e = plain-go (counted f) g _ h e
+    by x (free d c) e = let z : _≡_ {A = ℕ} 0 1 = cc in absurd (omega arith)
+    by x none e = plain-go (counted f) g _ (goes refl refl) e
+
 -- ---- the point of a number
 
 in-number : (xs : List Point) (n : ℕ) (x : Point) → pointIn xs n ≡ x → x ≢ Unknown → n ≡ numberOf x
@@ -181,3 +199,11 @@ in-number (y ∷ ys) n x e ne = by (eqb n (numberOf y)) (same? n (numberOf y)) e
 pub number-D7 : (n : ℕ) → pointOf n ≡ D7 → n ≡ 37
 unfolding pointOf
 number-D7 n e = in-number points n D7 e (λ z. (let w : _≡_ {A = ℕ} 0 1 = cc in omega arith))
+
+-- D3 goes on where the node has a next
+pub d3-goes : (M : Mem) (levels l : ℕ) (f : Frame) → f .point ≡ numberOf D3 → M .next (f .c .0) ≢ 0
+    → then M (rowOf levels l f) (counted f) ≡ Go (at (numberOf D4) (counted f))
+unfolding row counted
+d3-goes M levels l f p h =
+    ap (λ (x : Point). then M (row x (counted f) (level l) (level levels)) (counted f)) (point-is D3 (f .point) p)
+    ∙ if-other (M .next (f .c .0)) 0 _ _ h

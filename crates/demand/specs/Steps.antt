@@ -19,7 +19,7 @@ use Rattle.words.specs.Laws.{within-is}
 use Rattle.answers.specs.declared.End.{End}
 use Rattle.table.specs.declared.After.{After}
 use Rattle.table.specs.declared.After.the-variants.{Go, Done}
-use Rattle.table.specs.Points.{Point, D7, pointOf}
+use Rattle.table.specs.Points.{Point, D3, D7, numberOf, pointOf}
 use Rattle.table.specs.Frames.{counted}
 use Rattle.table.specs.Table.{Row, row}
 use Rattle.answers.specs.Said.{Said, refused, says, Step}
@@ -68,6 +68,34 @@ served s t (suc n) = by (eqb (op n) 0) (same? (op n) 0) (served s t n)
     by : (b : Bool) → Same (op n) 0 b → Serves s t n (serving s t n) → Serves s t (suc n) (cond b (serving s t n) (At (level n)))
     by true (same e) k = lift (serving s t n) e k
     by false (apart e) k = serves n (omega arith) e (λ j a b. absurd (omega arith))
+
+-- the highest level that runs is served
+serving-is : (s : Sizes) (t : List ℕ) (l n : ℕ) → l < n → frameOf s t (level l) .op ≢ 0
+    → ((j : ℕ) → l < j → j < n → frameOf s t (level j) .op ≡ 0) → serving s t n ≡ At (level l)
+unfolding serving
+serving-is s t l zero low run top = absurd (omega arith)
+serving-is s t l (suc n) low run top = by (eqb (op n) 0) (same? (op n) 0) (eqb l n) (same? l n) (serving-is s t l n)
+  where
+    op : ℕ → ℕ
+    op j = frameOf s t (level j) .op
+
+    by : (b : Bool) → Same (op n) 0 b → (c : Bool) → Same l n c
+        → (l < n → op l ≢ 0 → ((j : ℕ) → l < j → j < n → op j ≡ 0) → serving s t n ≡ At (level l))
+        → cond b (serving s t n) (At (level n)) ≡ At (level l)
+    by true (same e) true (same z) ih = absurd (run (rw z e))
+    by false (apart e) true (same z) ih = rw z
+    by true (same e) false (apart z) ih = ih (omega arith) run (λ j a b. top j a (omega arith))
+    by false (apart e) false (apart z) ih = absurd (e (top n (omega arith) (omega arith)))
+
+-- what it means that a level is served
+pub serves-at : (s : Sizes) (t : List ℕ) (n : ℕ) (l : Level) → serving s t n ≡ At l
+    → (l .0 < n) × (frameOf s t l .op ≢ 0) × ((j : ℕ) → l .0 < j → j < n → frameOf s t (level j) .op ≡ 0)
+serves-at s t n l e = by (serving s t n) (served s t n) e
+  where
+    by : (v : Served) → Serves s t n v → v ≡ At l
+        → (l .0 < n) × (frameOf s t l .op ≢ 0) × ((j : ℕ) → l .0 < j → j < n → frameOf s t (level j) .op ≡ 0)
+    by v (nobody h) e = let z : _≡_ {A = ℕ} 0 1 = cc in absurd (omega arith)
+    by v (serves k low run top) e = let z : level k ≡ l = cc in rw (← z) (low, run, top)
 
 -- ---- what a step returns
 
@@ -154,6 +182,14 @@ module _ (s : Sizes) (q : ℕ) (S : State) (some : 1 ≤ q) (y : ℕ) where
       (λ e. omega arith) y
 
 module _ (I : Invariant) where
+  -- a step that serves the frame at level l, and says x
+  pub record StepAt (s : Sizes) (t : List ℕ) (fronts : ℕ → List ℕ) (l : ℕ) (x : Step) : Type 0 where
+    pub table : List ℕ
+    pub is : stepSized s t ≡ (says x, table)
+    pub bridged : Bridged s t table l (counted (frames s t l)) (rowOf (s .levels) l (frames s t l))
+    pub keeps : Keeps I s t fronts (λ q. returnedByStep q x) (λ q. []) table
+    pub linked : frames s t l .point ≡ numberOf D3 → memory s t .next (frames s t l .c .0) ≢ 0
+
   pub data Outcome (s : Sizes) (t : List ℕ) (fronts : ℕ → List ℕ) : Type 0 where
     idle : stepSized s t ≡ (refused 9, t) → ((j : ℕ) → frames s t j .op ≡ 0) → Outcome s t fronts
     took : (x : Step) (u : List ℕ) → stepSized s t ≡ (says x, u) → Keeps I s t fronts (λ q. returnedByStep q x) (λ q. []) u → Outcome s t fronts
@@ -232,16 +268,20 @@ module _ (I : Invariant) where
               by false (apart e) =
                   let o = others-balance s r (stateOf s t) some y q x e (k .within) in rw (there r e, b .mem) (simp counts (omega arith))
 
-      took-at : (y : Step) × (u : List ℕ) × (stepServed s t (At (level l)) ≡ (says y, u)) × Keeps I s t fronts (λ r. returnedByStep r y) (λ r. []) u
-      unfolding stepServed stepFrame
-      took-at =
+      pub step-at : StepAt s t fronts l (saysOf (level l) (counted f) a)
+      unfolding stepSized stepServed stepFrame
+      step-at =
           let e = sym (frame-is s t l low) in
-          let done = performed-is s l low t m q (stateOf s t) (counted f) x (k .within) in (
-            saysOf (level l) (counted f) a,
-            done .0,
-            ap (λ (g : Frame). stepFrame s t (level l) (counted g)) e ∙ rw (sound-is s f (k .op) (k .point) somewhere) (done .1),
-            took-from (done .0) (done .2),
-          )
+          let done = performed-is s l low t m q (stateOf s t) (counted f) x (k .within) in
+          record {
+            table = done .0;
+            is =
+                rw (serving-is s t l (s .levels) low run top)
+                (ap (λ (g : Frame). stepFrame s t (level l) (counted g)) e ∙ rw (sound-is s f (k .op) (k .point) somewhere) (done .1));
+            bridged = done .2;
+            keeps = took-from (done .0) (done .2);
+            linked = k .linked;
+          }
 
     -- a step of a table in which all queues are sound
     pub step-taken : Outcome s t fronts
@@ -250,5 +290,4 @@ module _ (I : Invariant) where
       where
         by : (v : Served) → serving s t (s .levels) ≡ v → Serves s t (s .levels) v → Outcome s t fronts
         by v e (nobody h) = idle (rw e) (λ j. frame-idle s t j (h j))
-        by v e (serves l low run top) =
-            let k = took-at l low run top in took (k .0) (k .1) (rw e (k .2)) (k .3)
+        by v e (serves l low run top) = let k = step-at l low run top in took _ (k .table) (k .is) (k .keeps)

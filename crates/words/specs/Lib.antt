@@ -1,3 +1,4 @@
 pub mod Layout
 pub mod Inner
 pub mod Laws
+pub mod Blank

@@ -1,0 +1,185 @@
+-- Demand 3, proved over one queue's invariant.
+use Prim.Native.Nat.{ℕ, zero, suc, _+_, _≤_, _<_}
+use mathlib.Core.Path.{_≡_, refl, sym, ap, _∙_}
+use mathlib.Core.Logic.{_≢_}
+use mathlib.Core.Bool.{Bool, true, false, cond}
+use mathlib.Core.List.{List, [], _∷_, _++_, append-assoc}
+use native.Mathlib.Omega.{arith}
+use lib.Dec.{eqb}
+use lib.ListN.{length}
+use Rattle.words.specs.declared.Level.{Level}
+use Rattle.words.specs.declared.Queue.{Queue}
+use Rattle.words.specs.declared.Sizes.{Sizes}
+use Rattle.words.specs.declared.Measured.the-variants.{Sized}
+use Rattle.words.specs.declared.Frame.{Frame}
+use Rattle.words.specs.Layout.{node, words, measured}
+use Rattle.words.specs.Laws.{measured-fits}
+use Rattle.table.specs.Points.{D1}
+use Rattle.begins.specs.Begin.{begun}
+use Rattle.answers.specs.Said.{Said, refused, says, Run, after, refusal-10}
+use Rattle.steps.specs.Step.{stepOf}
+use Rattle.steps.specs.Run.{runFrom, runOf}
+use Rattle.lists.specs.Count.{Same, same, apart, same?, hit, cnt, counts}
+use Rattle.lists.specs.Beginning.{Beginning, begins-after}
+use Rattle.state.specs.Mem.{put, put-same, put-other}
+use Rattle.state.specs.View.{memory, frames, frame-is, memory-put, frames-put}
+use Rattle.state.specs.Queues.{own}
+use Rattle.demand.specs.History.{Event, History, handedBy, returnedBy, all, handed, returned, stillIn, listed}
+use Rattle.demand.specs.Demand.{Reached, QuietAt, firstOf, EachOnce, ListingAnswers, BeginningKept, DequeueAlone, NoRefusal10, D3GoesOn}
+use Rattle.demand.specs.World.{Invariant, World}
+use Rattle.demand.specs.Bridge.{stateOf}
+use Rattle.demand.specs.Keeps.{Keeps}
+use Rattle.demand.specs.Rows.{d3-goes}
+use Rattle.demand.specs.Steps.{StepAt, serves-at, step-at}
+use Rattle.demand.specs.Kept.{step-of, run-of, history-kept, step-unharmed, run-unharmed}
+use Rattle.demand.specs.Fresh.{Freshly, freshly, fresh-own, fresh-world}
+use Rattle.demand.specs.Moments.{
+  Nobody,
+  quietly,
+  own-sentinel,
+  still-front,
+  still-once,
+  still-first,
+  still-none,
+  off,
+  listing-is,
+  listing-unharmed,
+}
+use Rattle.demand.specs.Begins.{CanDequeue, can-dequeue, dequeue-kept}
+use Rattle.demand.specs.Alone.{alone}
+use Rattle.demand.specs.Dequeue.{Ends, Next, run-ends}
+
+all-append : (f : Event → List ℕ) (es fs : List Event) → all f (es ++ fs) ≡ all f es ++ all f fs
+all-append f [] fs = refl
+all-append f (e ∷ es) fs = ap (λ (l : List ℕ). f e ++ l) (all-append f es fs) ∙ sym (append-assoc (f e) (all f es) (all f fs))
+
+module _ (I : Invariant) where
+  -- what holds in every table that a history reaches
+  pub record Here (s : Sizes) (es : List Event) (t : List ℕ) : Type 0 where
+    pub sized : measured t ≡ Sized s
+    pub fronts : ℕ → List ℕ
+    pub world : World I s (stateOf s t) fronts
+    -- a node of queue q, but for its sentinel, was handed to it once more than it was returned
+    pub balance : (q : ℕ) → 1 ≤ q → q ≤ s .queues → (n : ℕ)
+        → own (s .queues) (memory s t .uses) q n + cnt n (all (returnedBy q) es) ≡ hit (eqb n q) + cnt n (all (handedBy q) es)
+
+  pub reached : (s : Sizes) (es : List Event) (t : List ℕ) → Reached s es t → Here s es t
+  reached s es t r =
+      record {
+        sized = k .sized;
+        fronts = k .fronts′;
+        world = k .world;
+        balance = λ q a b n. k .balance q a n ∙ ap (λ (x : ℕ). x + cnt n (all (handedBy q) es)) (fresh-own I s (r .1) f q a b n);
+      }
+    where
+      f : Freshly s (r .1)
+      f = freshly s (r .0) (r .1) (r .2)
+
+      k : Keeps I s (r .1) (λ q. []) (λ q. all (returnedBy q) es) (λ q. all (handedBy q) es) t
+      k = history-kept I s (r .1) t es (λ q. []) (f .sized) (fresh-world I s (r .1) f) (r .3)
+
+  module _ (s : Sizes) (es : List Event) (t : List ℕ) (q : Queue) where
+    pub each-once : EachOnce s es t q
+    each-once r quiet n =
+        let h = reached s es t r in
+        let nb = quietly s t q (h .sized) quiet in
+        let e = h .balance (q .0) (nb .some-queue) (nb .queue-known) n in
+        let o = still-once I s t (h .fronts) (h .sized) (h .world) q nb n in
+        let z = own-sentinel (s .queues) (memory s t .uses) (q .0) (nb .queue-known) in
+        by (eqb n (q .0)) (same? n (q .0)) e o z
+      where
+        u : ℕ → ℕ
+        u = memory s t .uses
+
+        by : (b : Bool) → Same n (q .0) b → own (s .queues) u (q .0) n + cnt n (returned q es) ≡ hit b + cnt n (handed q es)
+            → cnt n (stillIn s t q) ≡ cond b 0 (own (s .queues) u (q .0) n) → own (s .queues) u (q .0) (q .0) ≡ 1
+            → cnt n (listed s q es t) ≡ cnt n (handed q es)
+        by true (same i) e o z =
+            let own-n : own (s .queues) u (q .0) n ≡ 1 = rw i z in simp counts (omega arith)
+        by false (apart i) e o z = simp counts (omega arith)
+
+    pub listing-answers : ListingAnswers s es t q
+    listing-answers r quiet room h =
+        let k = reached s es t r in
+        listing-is I s t (k .fronts) (k .sized) (k .world) q (quietly s t q (k .sized) quiet) room h
+
+    pub beginning-kept : BeginningKept s es t q
+    beginning-kept fs u r quiet h later =
+        let k = reached s es t r in
+        let m = history-kept I s t u fs (k .fronts) (k .sized) (k .world) h in
+        let a = still-front I s t (k .fronts) (k .sized) (k .world) q (quietly s t q (k .sized) quiet) in
+        let b = still-front I s u (m .fronts′) (m .sized) (m .world) q (quietly s u q (m .sized) later) in
+        rw (a, b, all-append (returnedBy (q .0)) es fs, append-assoc)
+        (begins-after (returned q es) (k .fronts (q .0)) (returned q fs ++ m .fronts′ (q .0)) (m .begins (q .0)))
+
+    pub dequeue-alone : DequeueAlone s es t q
+    dequeue-alone l u r quiet h budget enough = (
+      e .steps,
+      e .end,
+      e .table,
+      run-of s budget u (n .sized) ∙ e .is,
+      e .op,
+      e .level-is,
+      e .queue-is,
+      e .node-is,
+      λ z. still-none I s t (k .fronts) (k .sized) (k .world) q nb (sym (e .node-is) ∙ z),
+    )
+      where
+        k : Here s es t
+        k = reached s es t r
+
+        nb : Nobody s t q
+        nb = quietly s t q (k .sized) quiet
+
+        c : CanDequeue s t l q u
+        c = can-dequeue s t (k .sized) l q u h
+
+        g : Frame
+        g = begun 2 D1 q (node 0)
+
+        room : words s ≤ length t
+        room = measured-fits t s (k .sized) .room
+
+        m : Keeps I s t (k .fronts) (λ p. []) (λ p. []) u
+        m = dequeue-kept I s t (k .fronts) (k .sized) (k .world) l q u h
+
+        frames-are : frames s u ≡ put (frames s t) (l .0) g
+        frames-are = rw (c .table) (frames-put s t room l (c .low) g)
+
+        n : Next I s (l .0) (c .low) (memory s t) g u (m .fronts′)
+        n =
+            record {
+              sized = m .sized;
+              world = m .world;
+              mem = rw (c .table) (memory-put s t room l g);
+              frame = rw frames-are (put-same (frames s t) (l .0) g);
+              runs = omega arith;
+              top = λ j a. rw (frames-are, put-other (frames s t) (l .0) g j (omega arith)) (c .idle j (omega arith));
+            }
+
+        e : Ends (l .0) g (firstOf (stillIn s t q)) (runFrom s budget 0 u)
+        e =
+            let a =
+            alone (s .levels) (l .0) (q .0) (memory s t) 0 0 0 g (nb .some-queue) (off I s t (k .fronts) (k .sized) (k .world) q nb)
+            (still-first I s t (k .fronts) (k .sized) (k .world) q nb)
+            in
+            run-ends I s (l .0) (c .low) (a .0) (a .2) u (m .fronts′) n budget 0 (omega arith)
+
+  module _ (s : Sizes) (es : List Event) (t : List ℕ) where
+    pub no-refusal-10 : NoRefusal10 s es t
+    no-refusal-10 r =
+        let k = reached s es t r in (
+          step-unharmed I s t (k .fronts) (k .sized) (k .world),
+          run-unharmed I s t (k .fronts) (k .sized) (k .world),
+          listing-unharmed I s t (k .fronts) (k .sized) (k .world),
+        )
+
+    pub d3-goes-on : D3GoesOn s es t
+    d3-goes-on l r e p =
+        let k = reached s es t r in
+        let v = serves-at s t (s .levels) l e in
+        let f = frame-is s t (l .0) (v .0) in
+        let a = step-at I s t (k .fronts) (k .sized) (k .world) (l .0) (v .0) (v .1) (v .2) in
+        let z = d3-goes (memory s t) (s .levels) (l .0) (frames s t (l .0)) (rw f p) (a .linked (rw f p)) in
+        let o = rw z at a in
+        rw (step-of s t (k .sized), o .is)
