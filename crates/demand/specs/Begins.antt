@@ -21,8 +21,8 @@ use Rattle.table.specs.Points.{E1, D1}
 use Rattle.conditions.specs.declared.Sought.{Sought}
 use Rattle.conditions.specs.declared.Sought.the-variants.{Running, RunningOn, DequeueOn}
 use Rattle.conditions.specs.Conditions.{firstOf, sought, some, noLevel, noQueue, noNode, busy, inUse, dequeued, unquiet}
-use Rattle.conditions.specs.Laws.{has-level, has-queue, has-node}
 use Rattle.begins.specs.Begin.{begun, unless, enqueueWhy, enqueueSized, enqueueMeasured, enqueueOf, dequeueWhy, dequeueSized, dequeueMeasured, dequeueOf}
+use Rattle.begins.specs.Laws.{enqueues, dequeues}
 use Rattle.lists.specs.Count.{Same, same, apart, same?, cnt, counts}
 use Rattle.lists.specs.Beginning.{begins-same}
 use Rattle.state.specs.Mem.{Mem, put, upd}
@@ -36,10 +36,6 @@ use Rattle.demand.specs.Keeps.{Keeps}
 use Rattle.demand.specs.History.{handedBy}
 
 -- ---- conditions that do not hold
-
-no-first : (r : ℕ) (b : Bool) (rest : ℕ) → cond b (suc r) rest ≡ 0 → (b ≡ false) × (rest ≡ 0)
-no-first r true rest h = absurd (omega arith)
-no-first r false rest h = (refl, h)
 
 pub none-of : (s : Sizes) (t : List ℕ) (w : Sought) (i n : ℕ) → some s t w i n ≡ false → (j : ℕ) → i ≤ j → j < i + n
     → sought w (frameOf s t (level j)) ≡ false
@@ -113,44 +109,35 @@ module _ (s : Sizes) (t : List ℕ) (m : measured t ≡ Sized s) (l : Level) whe
       by false e = absurd (omega (arith, idle j (ltb-false j (l .0) e)))
 
   pub can-enqueue : (q : Queue) (n : Node) (u : List ℕ) → enqueueOf t l q n ≡ (says tt, u) → CanEnqueue s t l q n u
-  unfolding enqueueOf enqueueMeasured enqueueSized enqueueWhy noQueue noNode inUse
+  unfolding enqueueOf enqueueMeasured enqueueSized noNode inUse Bound
   can-enqueue q n u h =
       let a = accepted (enqueueWhy s t l q n) t (wr s (putFrame s t l (begun 1 E1 q n)) (Use n) (q .0)) u (rw m at h) in
-      let e3 = no-first 2 (noLevel s l) _ (a .0) in
-      let e4 = no-first 3 (noQueue s q) _ (e3 .1) in
-      let e5 = no-first 4 (noNode s n) _ (e4 .1) in
-      let e6 = no-first 5 (busy s t l) _ (e5 .1) in
-      let e7 = no-first 6 (inUse s t n) _ (e6 .1) in
-      let low = has-level s l (e3 .0) in
-      let in-queues = not-false (within 1 (s .queues) (q .0)) (e4 .0) in
-      let in-nodes = not-false (within (s .queues + 1) (s .nodes) (n .0)) (e5 .0) in
+      let c = enqueues s t l q n (a .0) in
+      let b = bound s (Head q) (c .has-q) in
+      let user = not-false (within (s .queues + 1) (s .nodes) (n .0)) (c .is-user) in
       record {
-        low = low;
-        some-queue = within-low 1 (s .queues) (q .0) in-queues;
-        queue-known = within-high 1 (s .queues) (q .0) in-queues;
-        user = omega (arith, within-low (s .queues + 1) (s .nodes) (n .0) in-nodes);
-        node-known = within-high (s .queues + 1) (s .nodes) (n .0) in-nodes;
-        idle = not-busy (e6 .0) low;
-        unused = eqb-true (rd s t (Use n)) 0 (not-false (eqb (rd s t (Use n)) 0) (e7 .0));
+        low = c .has-l;
+        some-queue = b .0;
+        queue-known = b .1;
+        user = omega (arith, within-low (s .queues + 1) (s .nodes) (n .0) user);
+        node-known = within-high (s .queues + 1) (s .nodes) (n .0) user;
+        idle = not-busy (c .idle) (c .has-l);
+        unused = eqb-true (rd s t (Use n)) 0 (not-false (eqb (rd s t (Use n)) 0) (c .free));
         table = sym (a .1);
       }
 
   pub can-dequeue : (q : Queue) (u : List ℕ) → dequeueOf t l q ≡ (says tt, u) → CanDequeue s t l q u
-  unfolding dequeueOf dequeueMeasured dequeueSized dequeueWhy noQueue
+  unfolding dequeueOf dequeueMeasured dequeueSized Bound
   can-dequeue q u h =
       let a = accepted (dequeueWhy s t l q) t (putFrame s t l (begun 2 D1 q (node 0))) u (rw m at h) in
-      let e3 = no-first 2 (noLevel s l) _ (a .0) in
-      let e4 = no-first 3 (noQueue s q) _ (e3 .1) in
-      let e6 = no-first 5 (busy s t l) _ (e4 .1) in
-      let e8 = no-first 7 (dequeued s t l q) _ (e6 .1) in
-      let low = has-level s l (e3 .0) in
-      let in-queues = not-false (within 1 (s .queues) (q .0)) (e4 .0) in
+      let c = dequeues s t l q (a .0) in
+      let b = bound s (Head q) (c .has-q) in
       record {
-        low = low;
-        some-queue = within-low 1 (s .queues) (q .0) in-queues;
-        queue-known = within-high 1 (s .queues) (q .0) in-queues;
-        idle = not-busy (e6 .0) low;
-        only = not-dequeued q (e8 .0) low (not-busy (e6 .0) low);
+        low = c .has-l;
+        some-queue = b .0;
+        queue-known = b .1;
+        idle = not-busy (c .idle) (c .has-l);
+        only = not-dequeued q (c .alone) (c .has-l) (not-busy (c .idle) (c .has-l));
         table = sym (a .1);
       }
 

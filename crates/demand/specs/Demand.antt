@@ -1,15 +1,18 @@
 -- Demand 3: nothing is lost, nothing is doubled, and the order is kept from one quiet moment to the next, under any schedule of nested interrupts.
 -- A history is any sequence of accepted calls from fresh, for any sizes within the limits and any lent words that hold the table.
-use Prim.Native.Nat.{ℕ, _+_, _≤_}
+use Prim.Native.Nat.{ℕ, _+_, _≤_, _<_}
 use mathlib.Core.Path.{_≡_}
 use mathlib.Core.Logic.{_≢_}
 use mathlib.Core.Bool.{true}
 use mathlib.Core.List.{List, [], _∷_, _++_}
+use lib.Dec.{eqb}
 use lib.ListN.{length, drop}
 use Rattle.words.specs.declared.Level.{Level}
 use Rattle.words.specs.declared.Queue.{Queue}
+use Rattle.words.specs.declared.Node.{Node}
 use Rattle.words.specs.declared.Sizes.{Sizes}
-use Rattle.words.specs.Layout.{level, frameOf}
+use Rattle.words.specs.declared.Word.the-variants.{Head, Use}
+use Rattle.words.specs.Layout.{has, rd, frameOf}
 use Rattle.answers.specs.declared.End.{End}
 use Rattle.answers.specs.Said.{Said, refused, says, Step, going-on, Run, after, an-end, refusal-10}
 use Rattle.fresh.specs.Fresh.{freshOf}
@@ -20,7 +23,7 @@ use Rattle.steps.specs.declared.Served.the-variants.{At}
 use Rattle.asks.specs.Quiet.{quietOf}
 use Rattle.asks.specs.Listing.{listingOf}
 use Rattle.table.specs.Points.{D3, numberOf}
-use Rattle.lists.specs.Count.{cnt}
+use Rattle.lists.specs.Count.{hit, cnt}
 use Rattle.lists.specs.Beginning.{Beginning}
 use Rattle.demand.specs.History.{Event, History, handed, returned, stillIn, listed}
 
@@ -60,6 +63,19 @@ module _ (s : Sizes) (es : List Event) (t : List ℕ) (q : Queue) where
       (l : Level) (u : List ℕ) → Reached s es t → QuietAt t q → dequeueOf t l q ≡ (says tt, u) → (budget : ℕ) → 22 + l .0 ≤ budget
       → (steps : ℕ) × (e : End) × (v : List ℕ) × (runOf budget u ≡ (says (after steps (an-end e)), v))
       × (e .op ≡ 2) × (e .level ≡ l) × (e .queue ≡ q) × (e .node .0 ≡ firstOf (stillIn s t q)) × (e .node .0 ≡ 0 → stillIn s t q ≡ [])
+
+module _ (s : Sizes) (es : List Event) (t : List ℕ) (q : Queue) (n : Node) where
+  -- A user's node was handed to q once more than it was returned where its use names q, and as often where it does not: at every moment.
+  abbrev pub UseTells : Type 0
+  UseTells =
+      Reached s es t → has s (Head q) ≡ true → has s (Use n) ≡ true → s .queues < n .0
+      → cnt (n .0) (handed q es) ≡ cnt (n .0) (returned q es) + hit (eqb (rd s t (Use n)) (q .0))
+
+  -- The nodes still in a quiet queue are those whose use names it.
+  abbrev pub UseListed : Type 0
+  UseListed =
+      Reached s es t → QuietAt t q → has s (Use n) ≡ true → s .queues < n .0
+      → cnt (n .0) (stillIn s t q) ≡ hit (eqb (rd s t (Use n)) (q .0))
 
 module _ (s : Sizes) (es : List Event) (t : List ℕ) where
   -- Refusal 10 never comes: not to a step, not to a run, not to a listing.

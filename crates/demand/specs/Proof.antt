@@ -5,15 +5,18 @@ use mathlib.Core.Logic.{_≢_}
 use mathlib.Core.Bool.{Bool, true, false, cond}
 use mathlib.Core.List.{List, [], _∷_, _++_, append-assoc}
 use native.Mathlib.Omega.{arith}
-use lib.Dec.{eqb}
+use lib.Dec.{ltb, eqb}
+use borrow.Author.Tests.{ne-eqb, lt-ltb}
 use lib.ListN.{length}
 use Rattle.words.specs.declared.Level.{Level}
 use Rattle.words.specs.declared.Queue.{Queue}
 use Rattle.words.specs.declared.Sizes.{Sizes}
 use Rattle.words.specs.declared.Measured.the-variants.{Sized}
 use Rattle.words.specs.declared.Frame.{Frame}
-use Rattle.words.specs.Layout.{node, words, measured}
-use Rattle.words.specs.Laws.{measured-fits}
+use Rattle.words.specs.declared.Node.{Node}
+use Rattle.words.specs.declared.Word.the-variants.{Head, Use}
+use Rattle.words.specs.Layout.{node, words, measured, has, rd}
+use Rattle.words.specs.Laws.{Bound, bound, measured-fits}
 use Rattle.table.specs.Points.{D1}
 use Rattle.begins.specs.Begin.{begun}
 use Rattle.answers.specs.Said.{Said, refused, says, Run, after, refusal-10}
@@ -22,10 +25,10 @@ use Rattle.steps.specs.Run.{runFrom, runOf}
 use Rattle.lists.specs.Count.{Same, same, apart, same?, hit, cnt, counts}
 use Rattle.lists.specs.Beginning.{Beginning, begins-after}
 use Rattle.state.specs.Mem.{put, put-same, put-other}
-use Rattle.state.specs.View.{memory, frames, frame-is, memory-put, frames-put}
+use Rattle.state.specs.View.{memory, frames, look-rd, frame-is, memory-put, frames-put}
 use Rattle.state.specs.Queues.{own}
 use Rattle.demand.specs.History.{Event, History, handedBy, returnedBy, all, handed, returned, stillIn, listed}
-use Rattle.demand.specs.Demand.{Reached, QuietAt, firstOf, EachOnce, ListingAnswers, BeginningKept, DequeueAlone, NoRefusal10, D3GoesOn}
+use Rattle.demand.specs.Demand.{Reached, QuietAt, firstOf, EachOnce, ListingAnswers, BeginningKept, DequeueAlone, UseTells, UseListed, NoRefusal10, D3GoesOn}
 use Rattle.demand.specs.World.{Invariant, World}
 use Rattle.demand.specs.Bridge.{stateOf}
 use Rattle.demand.specs.Keeps.{Keeps}
@@ -164,6 +167,28 @@ module _ (I : Invariant) where
             (still-first I s t (k .fronts) (k .sized) (k .world) q nb)
             in
             run-ends I s (l .0) (c .low) (a .0) (a .2) u (m .fronts′) n budget 0 (omega arith)
+
+  module _ (s : Sizes) (es : List Event) (t : List ℕ) (q : Queue) (n : Node) where
+    -- a user's node is a queue's where its use names it
+    own-is : (h : has s (Use n) ≡ true) → s .queues < n .0 → own (s .queues) (memory s t .uses) (q .0) (n .0) ≡ hit (eqb (rd s t (Use n)) (q .0))
+    unfolding own
+    own-is h user = rw (lt-ltb (s .queues) (n .0) user, look-rd s t (Use n) h)
+
+    pub use-tells : UseTells s es t q n
+    unfolding Bound
+    use-tells r hq hn user =
+        let k = reached s es t r in
+        let b = bound s (Head q) hq in
+        let e = k .balance (q .0) (b .0) (b .1) (n .0) in
+        let z = ne-eqb (n .0) (q .0) (λ i. omega arith) in
+        omega (arith, rw (own-is hn user, z) at e)
+
+    pub use-listed : UseListed s es t q n
+    use-listed r quiet hn user =
+        let k = reached s es t r in
+        let nb = quietly s t q (k .sized) quiet in
+        let z = ne-eqb (n .0) (q .0) (λ i. omega (arith, nb .queue-known)) in
+        rw (own-is hn user, z) at (still-once I s t (k .fronts) (k .sized) (k .world) q nb (n .0))
 
   module _ (s : Sizes) (es : List Event) (t : List ℕ) where
     pub no-refusal-10 : NoRefusal10 s es t

@@ -248,18 +248,18 @@ same-place s u w h k e =
     sym (word-at s u (bound s u h)) ∙ rw (r .0, r .1, r .2) (word-at s w (bound s w k))
 
 -- a word of the table stands before the frames' count, and is none of the other counts
-pub record Clear (s : Sizes) (i : ℕ) : Type 0 where
-  pub no-levels : i ≢ levelsAt
-  pub no-queues : i ≢ queuesAt (s .levels)
-  pub no-nodes : i ≢ nodesAt (s .levels) (s .queues)
-  pub before : i < framesAt (s .levels) (s .queues) (s .nodes)
+record Clear (s : Sizes) (i : ℕ) : Type 0 where
+  no-levels : i ≢ levelsAt
+  no-queues : i ≢ queuesAt (s .levels)
+  no-nodes : i ≢ nodesAt (s .levels) (s .queues)
+  before : i < framesAt (s .levels) (s .queues) (s .nodes)
 
 spot-clear : (s : Sizes) (x : Section) (i a : ℕ) → i < size s x → a < 2 → Clear s (first s x + 2 * i + a)
 spot-clear s levels i a p v = record { no-levels = omega arith; no-queues = omega arith; no-nodes = omega arith; before = omega arith }
 spot-clear s queues i a p v = record { no-levels = omega arith; no-queues = omega arith; no-nodes = omega arith; before = omega arith }
 spot-clear s nodes i a p v = record { no-levels = omega arith; no-queues = omega arith; no-nodes = omega arith; before = omega arith }
 
-pub addr-clear : (s : Sizes) (w : Word) → has s w ≡ true → Clear s (addr s w)
+addr-clear : (s : Sizes) (w : Word) → has s w ≡ true → Clear s (addr s w)
 addr-clear s w h =
     let p = spot s w h in rw (p .is) (spot-clear s (section w) (entry w) (half w) (p .inside) (p .one-of-two))
 
@@ -314,11 +314,11 @@ sets-in (w ∷ ws) t b (suc i) h r =
 
 -- ---- frames
 
-pub frame-in : (s : Sizes) (l : Level) → l .0 < s .levels → frameAt s l + 11 ≤ words s
+frame-in : (s : Sizes) (l : Level) → l .0 < s .levels → frameAt s l + 11 ≤ words s
 unfolding frameAt
 frame-in s l h = omega arith
 
-pub frame-past : (s : Sizes) (l : Level) → framesAt (s .levels) (s .queues) (s .nodes) < frameAt s l
+frame-past : (s : Sizes) (l : Level) → framesAt (s .levels) (s .queues) (s .nodes) < frameAt s l
 unfolding frameAt
 frame-past s l = omega arith
 
@@ -327,7 +327,7 @@ unfolding frameAt
 frames-apart s k l i j ne p q e = omega arith
 
 -- a frame is the same where its 11 words are
-pub frame-kept : (t u : List ℕ) (b : ℕ) → ((i : ℕ) → i < 11 → getD u (b + i) 0 ≡ getD t (b + i) 0) → frameFrom u b ≡ frameFrom t b
+frame-kept : (t u : List ℕ) (b : ℕ) → ((i : ℕ) → i < 11 → getD u (b + i) 0 ≡ getD t (b + i) 0) → frameFrom u b ≡ frameFrom t b
 frame-kept t u b h =
     let op : getD u b 0 ≡ getD t b 0 = rw add-zero at (h 0 (omega arith)) in
     simp (
