@@ -3,16 +3,12 @@
 use Prim.Native.Nat.{ℕ, zero, suc, _+_, _-_, _≤_, _<_}
 use mathlib.Core.Path.{_≡_, refl, sym, ap, _∙_}
 use mathlib.Core.Logic.{_≢_}
-use mathlib.Core.Bool.{Bool, true, false, cond}
+use mathlib.Core.Bool.{Bool, true, false}
 use native.Mathlib.Omega.{arith}
-use lib.Dec.{ltb, eqb}
-use Rattle.words.specs.declared.Level.{Level}
-use Rattle.words.specs.declared.Queue.{Queue}
-use Rattle.words.specs.declared.Node.{Node}
+use lib.Dec.{eqb}
 use Rattle.words.specs.declared.Frame.{Frame}
-use Rattle.words.specs.declared.Word.the-variants.{LevelNode, LevelQueue, Head, Tail, Next, Use}
+use Rattle.words.specs.declared.Word.the-variants.{LevelNode, LevelQueue, Head, Tail, Next}
 use Rattle.words.specs.Layout.{level, queue, node}
-use Rattle.table.specs.declared.After.{After}
 use Rattle.table.specs.declared.After.the-variants.{Go, Done}
 use Rattle.table.specs.Points.{pointOf}
 use Rattle.table.specs.Frames.{frame, at, setK, counted, belowKTo, walkTo}

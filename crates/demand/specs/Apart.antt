@@ -12,14 +12,10 @@ use Rattle.words.specs.declared.Word.{Word}
 use Rattle.words.specs.declared.Word.the-variants.{LevelNode, LevelQueue, Head, Tail, Next, Use}
 use Rattle.words.specs.declared.Queue.{Queue}
 use Rattle.words.specs.Layout.{level, node}
-use Rattle.table.specs.Points.{pointOf}
-use Rattle.table.specs.Frames.{counted}
-use Rattle.table.specs.declared.After.{After}
-use Rattle.table.specs.declared.After.the-variants.{Go, Done}
-use Rattle.table.specs.Table.{Row, loads, stores, frees, nothing}
+use Rattle.table.specs.Table.{Row}
 use Rattle.lists.specs.Count.{Same, same, apart, same?, hit}
 use Rattle.state.specs.Mem.{Mem, put, put-same, put-other, upd}
-use Rattle.state.specs.Step.{State, memAfter, then, frameAfter, rowOf, stepped}
+use Rattle.state.specs.Step.{State, memAfter, rowOf, stepped}
 use Rattle.demand.specs.Rows.{nextFrame, next-frame}
 use Rattle.state.specs.Queues.{On, own, Mine, Within, load, store, free, Alike, still, others, Apart}
 

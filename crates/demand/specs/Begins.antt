@@ -2,11 +2,11 @@
 use Prim.Native.Nat.{ℕ, zero, suc, _+_, _-_, _≤_, _<_}
 use mathlib.Core.Path.{_≡_, refl, sym, ap, _∙_}
 use mathlib.Core.Logic.{_≢_}
-use mathlib.Core.Bool.{Bool, true, false, cond, not, _&&_, _||_}
-use mathlib.Core.List.{List, [], _∷_, _++_}
+use mathlib.Core.Bool.{Bool, true, false, cond, _||_}
+use mathlib.Core.List.{List, [], _∷_}
 use native.Mathlib.Omega.{arith}
 use lib.Dec.{ltb, eqb}
-use borrow.Author.Tests.{not-false, ltb-true, ltb-false, eqb-true, eq-eqb, ne-eqb}
+use borrow.Author.Tests.{not-false, ltb-true, ltb-false, eqb-true, eq-eqb}
 use Rattle.words.specs.declared.Level.{Level}
 use Rattle.words.specs.declared.Queue.{Queue}
 use Rattle.words.specs.declared.Node.{Node}
@@ -19,21 +19,19 @@ use Rattle.words.specs.Laws.{Bound, bound, within-low, within-high, measured-wr
 use Rattle.answers.specs.Said.{Said, refused, says}
 use Rattle.table.specs.Points.{E1, D1}
 use Rattle.conditions.specs.declared.Sought.{Sought}
-use Rattle.conditions.specs.declared.Sought.the-variants.{Running, RunningOn, DequeueOn}
-use Rattle.conditions.specs.Conditions.{firstOf, sought, some, noLevel, noQueue, noNode, busy, inUse, dequeued, unquiet}
+use Rattle.conditions.specs.declared.Sought.the-variants.{Running, DequeueOn}
+use Rattle.conditions.specs.Conditions.{sought, some, noNode, busy, inUse, dequeued}
 use Rattle.begins.specs.Begin.{begun, unless, enqueueWhy, enqueueSized, enqueueMeasured, enqueueOf, dequeueWhy, dequeueSized, dequeueMeasured, dequeueOf}
 use Rattle.begins.specs.Laws.{enqueues, dequeues}
 use Rattle.lists.specs.Count.{Same, same, apart, same?, cnt, counts}
 use Rattle.lists.specs.Beginning.{begins-same}
 use Rattle.state.specs.Mem.{Mem, put, upd}
-use Rattle.state.specs.Step.{State}
 use Rattle.state.specs.View.{memory, frames, look-rd, frame-is, frame-idle, memory-wr, frames-wr, memory-put, frames-put}
 use Rattle.state.specs.Queues.{own}
 use Rattle.demand.specs.Apart.{own-put, own-handed}
-use Rattle.demand.specs.World.{Invariant, World, IdleFrom, enqueueBegun, dequeueBegun, world-enqueue, world-dequeue}
+use Rattle.demand.specs.World.{Invariant, World, IdleFrom, enqueueBegun, world-enqueue, world-dequeue}
 use Rattle.demand.specs.Bridge.{stateOf, has-is}
 use Rattle.demand.specs.Keeps.{Keeps}
-use Rattle.demand.specs.History.{handedBy}
 
 -- ---- conditions that do not hold
 

@@ -1,12 +1,10 @@
 -- From the words to the memory: a step of the table, where its row's word is one of the table's, is a step of what the theory sees.
-use Prim.Native.Nat.{ℕ, zero, suc, _+_, _≤_, _<_}
-use mathlib.Core.Path.{_≡_, refl, sym, ap, _∙_, fun-ext}
-use mathlib.Core.Logic.{_≢_, _⊎_, inl, inr}
-use mathlib.Core.Bool.{Bool, true, false, cond}
+use Prim.Native.Nat.{ℕ, _<_}
+use mathlib.Core.Path.{_≡_, refl, ap, _∙_}
+use mathlib.Core.Logic.{_≢_}
+use mathlib.Core.Bool.{true}
 use mathlib.Core.List.{List}
 use native.Mathlib.Omega.{arith}
-use lib.Dec.{ltb, eqb}
-use lib.ListN.{length}
 use borrow.Author.Tests.{lt-ltb}
 use Rattle.words.specs.declared.Level.{Level}
 use Rattle.words.specs.declared.Sizes.{Sizes}
@@ -14,17 +12,15 @@ use Rattle.words.specs.declared.Frame.{Frame}
 use Rattle.words.specs.declared.Measured.the-variants.{Sized}
 use Rattle.words.specs.declared.Word.{Word}
 use Rattle.words.specs.declared.Word.the-variants.{LevelNode, LevelQueue, Head, Tail, Next, Use}
-use Rattle.words.specs.Layout.{level, queue, node, words, within, measured, has, rd, wr, frameOf, putFrame, noFrame}
-use Rattle.words.specs.Laws.{Bound, within-is, wr-length, measured-wr, measured-put, measured-fits}
+use Rattle.words.specs.Layout.{level, measured, has, wr, putFrame}
+use Rattle.words.specs.Laws.{Bound, within-is, measured-wr, measured-put, measured-fits}
 use Rattle.answers.specs.Said.{Said, refused, says, Step, going-on, ended}
 use Rattle.table.specs.declared.After.{After}
 use Rattle.table.specs.declared.After.the-variants.{Go, Done}
-use Rattle.table.specs.Frames.{counted}
-use Rattle.table.specs.Points.{pointOf}
-use Rattle.table.specs.Table.{Row, loads, stores, frees, nothing, row}
+use Rattle.table.specs.Table.{Row}
 use Rattle.steps.specs.Step.{endOf, settled, performed}
 use Rattle.state.specs.Mem.{Mem, look, put, upd}
-use Rattle.state.specs.Step.{State, memAfter, then, frameAfter, rowOf, stepped}
+use Rattle.state.specs.Step.{State, memAfter, then, frameAfter}
 use Rattle.state.specs.View.{memory, frames, look-rd, memory-wr, frames-wr, memory-put, frames-put}
 use Rattle.state.specs.Queues.{Within, load, store, free}
 

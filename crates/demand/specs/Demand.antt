@@ -14,7 +14,7 @@ use Rattle.words.specs.declared.Sizes.{Sizes}
 use Rattle.words.specs.declared.Word.the-variants.{Head, Use}
 use Rattle.words.specs.Layout.{has, rd, frameOf}
 use Rattle.answers.specs.declared.End.{End}
-use Rattle.answers.specs.Said.{Said, refused, says, Step, going-on, Run, after, an-end, refusal-10}
+use Rattle.answers.specs.Said.{refused, says, going-on, after, an-end, refusal-10}
 use Rattle.fresh.specs.Fresh.{freshOf}
 use Rattle.begins.specs.Begin.{dequeueOf}
 use Rattle.steps.specs.Step.{serving, stepOf}

@@ -1,28 +1,26 @@
 -- A dequeue alone, in the table: the run of its steps that memory shows is the run of the table.
 use Prim.Native.Nat.{ℕ, zero, suc, _+_, _≤_, _<_}
-use mathlib.Core.Path.{_≡_, refl, sym, ap, _∙_}
+use mathlib.Core.Path.{_≡_, refl, ap, _∙_}
 use mathlib.Core.Logic.{_≢_}
-use mathlib.Core.List.{List, [], _∷_, _++_}
+use mathlib.Core.List.{List}
 use native.Mathlib.Omega.{arith}
-use Rattle.words.specs.declared.Level.{Level}
-use Rattle.words.specs.declared.Queue.{Queue}
 use Rattle.words.specs.declared.Sizes.{Sizes}
 use Rattle.words.specs.declared.Frame.{Frame}
 use Rattle.words.specs.declared.Measured.the-variants.{Sized}
-use Rattle.words.specs.Layout.{level, node, measured, frameOf}
+use Rattle.words.specs.Layout.{level, node, measured}
 use Rattle.answers.specs.declared.End.{End}
-use Rattle.answers.specs.Said.{Said, says, Step, going-on, ended, Run, after, an-end}
+use Rattle.answers.specs.Said.{Said, says, going-on, Run, after, an-end}
 use Rattle.table.specs.declared.After.{After}
-use Rattle.table.specs.declared.After.the-variants.{Go, Done}
+use Rattle.table.specs.declared.After.the-variants.{Go}
 use Rattle.table.specs.Frames.{counted}
-use Rattle.steps.specs.Step.{endOf, stepSized}
+use Rattle.steps.specs.Step.{endOf}
 use Rattle.steps.specs.Run.{ranOn, runFrom}
 use Rattle.state.specs.Mem.{Mem, put, put-same, put-other}
 use Rattle.state.specs.Step.{memAfter, then, frameAfter, rowOf}
 use Rattle.state.specs.View.{memory, frames, frame-is}
 use Rattle.demand.specs.Rows.{goes-on}
 use Rattle.demand.specs.World.{Invariant, World}
-use Rattle.demand.specs.Bridge.{stateOf, saysOf, Bridged}
+use Rattle.demand.specs.Bridge.{stateOf, saysOf}
 use Rattle.demand.specs.Steps.{StepAt, step-at}
 use Rattle.demand.specs.Alone.{Runs, last, more}
 

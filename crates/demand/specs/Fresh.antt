@@ -1,30 +1,26 @@
 -- A fresh table is sound in every queue: each chain is its sentinel alone, and no node is a queue's but those.
-use Prim.Native.Nat.{ℕ, zero, suc, _+_, _≤_, _<_}
+use Prim.Native.Nat.{ℕ, zero, _≤_}
 use mathlib.Core.Path.{_≡_, refl, sym, ap, _∙_}
-use mathlib.Core.Logic.{_≢_}
-use mathlib.Core.Bool.{Bool, true, false, cond, not, _&&_}
-use mathlib.Core.List.{List, [], _∷_, _++_}
+use mathlib.Core.Bool.{Bool, true, false, cond, not}
+use mathlib.Core.List.{List, [], _∷_}
 use native.Mathlib.Omega.{arith}
-use lib.Dec.{ltb, leb, eqb}
-use lib.ListN.{length, drop, replicate, length-append, length-replicate}
-use borrow.Author.Tests.{eq-eqb, ne-eqb, not-false, ltb-true, ltb-false}
+use lib.Dec.{ltb, eqb}
+use lib.ListN.{length}
+use borrow.Author.Tests.{ne-eqb, ltb-true, ltb-false}
 use Rattle.words.specs.declared.Sizes.{Sizes}
 use Rattle.words.specs.declared.Frame.{Frame}
 use Rattle.words.specs.declared.Word.{Word}
-use Rattle.words.specs.declared.Word.the-variants.{Head, Tail, Next, Use}
 use Rattle.words.specs.declared.Measured.the-variants.{Sized}
-use Rattle.words.specs.Layout.{level, queue, limits, words, measured, has, rd, wr, frameOf, putCounts, noFrame}
-use Rattle.words.specs.Laws.{Bound, wr-length, frame-wr, measured-limits}
+use Rattle.words.specs.Layout.{level, limits, words, measured, has, rd}
+use Rattle.words.specs.Laws.{Bound, measured-limits}
 use Rattle.answers.specs.Said.{Said, refused, says}
 use Rattle.fresh.specs.Fresh.{freshTable, freshOf}
 use Rattle.fresh.specs.Laws.{freshWord, fresh-measured, fresh-rd, fresh-frame}
-use Rattle.lists.specs.Count.{Same, same, apart, same?, hit, cnt, counts}
+use Rattle.lists.specs.Count.{hit, counts}
 use Rattle.lists.specs.Beginning.{without, without-self}
-use Rattle.chains.specs.Seg.{Seg, stop, link}
-use Rattle.state.specs.Mem.{Mem, put, put-same, put-other, upd}
-use Rattle.state.specs.Step.{State}
-use Rattle.state.specs.View.{levelQueue, headOf, tailOf, nextOf, useOf, seen, memory, frames, frame-idle, memory-same, memory-wr, uses-past}
-use Rattle.state.specs.Queues.{On, own}
+use Rattle.chains.specs.Seg.{stop, link}
+use Rattle.state.specs.View.{levelQueue, headOf, tailOf, nextOf, useOf, seen, memory, frames, frame-idle, uses-past}
+use Rattle.state.specs.Queues.{own}
 use Rattle.demand.specs.World.{Invariant, World, Chained}
 use Rattle.demand.specs.Bridge.{stateOf, has-is, same-said, no-answer}
 

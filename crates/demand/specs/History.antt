@@ -1,7 +1,7 @@
 -- What a history is: accepted calls, one after another, with what each answered; what they handed to a queue and returned from it.
 use Prim.Native.Nat.{ℕ, zero, suc}
 use mathlib.Core.Path.{_≡_}
-use mathlib.Core.Bool.{Bool, cond, not, _&&_}
+use mathlib.Core.Bool.{cond, not, _&&_}
 use mathlib.Core.List.{List, [], _∷_, _++_}
 use lib.Dec.{eqb}
 use Rattle.words.specs.declared.Level.{Level}
@@ -11,7 +11,7 @@ use Rattle.words.specs.declared.Sizes.{Sizes}
 use Rattle.words.specs.declared.Word.the-variants.{Head, Tail, Next}
 use Rattle.words.specs.Layout.{node, rd}
 use Rattle.answers.specs.declared.End.{End}
-use Rattle.answers.specs.Said.{Said, says, Step, going-on, ended, Why, an-end, spent, nothing-runs, refusal-10, Run, after}
+use Rattle.answers.specs.Said.{says, Step, going-on, ended, an-end, spent, nothing-runs, refusal-10, Run, after}
 use Rattle.begins.specs.Begin.{enqueueOf, dequeueOf}
 use Rattle.steps.specs.Step.{stepOf}
 use Rattle.steps.specs.Run.{runOf}

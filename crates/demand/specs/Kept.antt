@@ -1,38 +1,22 @@
 -- Histories: every accepted call keeps all queues, and so does any number of them.
-use Prim.Native.Nat.{ℕ, zero, suc, _+_}
-use mathlib.Core.Path.{_≡_, refl, sym, ap, _∙_, subst}
+use Prim.Native.Nat.{ℕ}
+use mathlib.Core.Path.{_≡_, sym, _∙_, subst}
 use mathlib.Core.Logic.{_≢_}
-use mathlib.Core.List.{List, [], _∷_, _++_}
+use mathlib.Core.List.{List, []}
 use native.Mathlib.Omega.{arith}
 use Rattle.words.specs.declared.Sizes.{Sizes}
 use Rattle.words.specs.declared.Measured.the-variants.{Sized}
 use Rattle.words.specs.Layout.{measured}
-use Rattle.answers.specs.Said.{Said, refused, says, Step, Run, after, refusal-10}
+use Rattle.answers.specs.Said.{refused, says, after, refusal-10}
 use Rattle.steps.specs.Step.{stepMeasured, stepOf, stepSized}
 use Rattle.steps.specs.Run.{runFrom, runMeasured, runOf}
 use Rattle.demand.specs.World.{Invariant, World}
 use Rattle.demand.specs.Bridge.{stateOf, same-said, no-answer, other-number}
 use Rattle.demand.specs.Keeps.{Keeps, keeps-same, keeps-then}
 use Rattle.demand.specs.Steps.{Outcome, idle, took, step-taken}
-use Rattle.demand.specs.Runs.{RunKept, run-kept}
+use Rattle.demand.specs.Runs.{run-kept}
 use Rattle.demand.specs.Begins.{enqueue-kept, dequeue-kept}
-use Rattle.demand.specs.History.{
-  Event,
-  Accepted,
-  enqueue,
-  dequeue,
-  step,
-  run,
-  ask,
-  History,
-  none,
-  call,
-  handedBy,
-  returnedByStep,
-  returnedByRun,
-  returnedBy,
-  all,
-}
+use Rattle.demand.specs.History.{Event, Accepted, enqueue, dequeue, step, run, ask, History, none, call, handedBy, returnedByStep, returnedBy, all}
 
 pub step-of : (s : Sizes) (t : List ℕ) → measured t ≡ Sized s → stepOf t ≡ stepSized s t
 unfolding stepOf stepMeasured

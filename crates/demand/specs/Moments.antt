@@ -1,14 +1,14 @@
 -- A quiet moment: what the invariant of a quiet queue says of the words.
-use Prim.Native.Nat.{ℕ, zero, suc, _+_, _≤_, _<_}
+use Prim.Native.Nat.{ℕ, _≤_, _<_}
 use mathlib.Core.Path.{_≡_, refl, sym, ap, _∙_}
 use mathlib.Core.Logic.{_≢_}
-use mathlib.Core.Bool.{Bool, true, false, cond, not, _&&_}
+use mathlib.Core.Bool.{Bool, true, false, cond, not}
 use mathlib.Core.Option.{some}
 use mathlib.Core.List.{List, [], _∷_, _++_}
 use native.Mathlib.Omega.{arith}
 use lib.Dec.{ltb, eqb}
 use lib.ListN.{length, drop}
-use borrow.Author.Tests.{eq-eqb, ne-eqb, not-false, ltb-true, ltb-false, le-ltb}
+use borrow.Author.Tests.{eq-eqb, ne-eqb, ltb-true, ltb-false, le-ltb}
 use Rattle.words.specs.declared.Queue.{Queue}
 use Rattle.words.specs.declared.Sizes.{Sizes}
 use Rattle.words.specs.declared.Frame.{Frame}
@@ -21,10 +21,9 @@ use Rattle.conditions.specs.declared.Sought.the-variants.{RunningOn}
 use Rattle.conditions.specs.Conditions.{sought, noQueue, unquiet}
 use Rattle.asks.specs.Quiet.{quietMeasured, quietOf}
 use Rattle.asks.specs.Listing.{nodesFrom, nodesOf, listed, listingSized, listingMeasured, listingOf}
-use Rattle.lists.specs.Count.{Same, same, apart, same?, hit, cnt, cnt-nil, cnt-self, counts}
+use Rattle.lists.specs.Count.{Same, same, apart, same?, hit, cnt, cnt-nil, cnt-self}
 use Rattle.lists.specs.Beginning.{without, cnt-without}
 use Rattle.chains.specs.Seg.{Seg, stop, link}
-use Rattle.state.specs.Step.{State}
 use Rattle.state.specs.View.{memory, frames, look-rd, frame-is, frame-idle, uses-past}
 use Rattle.state.specs.Queues.{On, own}
 use Rattle.demand.specs.World.{Invariant, World, Chained}
@@ -32,7 +31,7 @@ use Rattle.demand.specs.Bridge.{stateOf, has-is, other-number}
 use Rattle.demand.specs.Begins.{none-of}
 use Rattle.demand.specs.Quiet.{once-short, chain-is, along-is, first-is}
 use Rattle.demand.specs.Alone.{First}
-use Rattle.demand.specs.History.{along, stillIn}
+use Rattle.demand.specs.History.{stillIn}
 use Rattle.demand.specs.Demand.{QuietAt, firstOf}
 
 -- ---- nobody is on a quiet queue

@@ -1,14 +1,12 @@
 -- Demand 3, proved over one queue's invariant.
-use Prim.Native.Nat.{ℕ, zero, suc, _+_, _≤_, _<_}
+use Prim.Native.Nat.{ℕ, _+_, _≤_, _<_}
 use mathlib.Core.Path.{_≡_, refl, sym, ap, _∙_}
-use mathlib.Core.Logic.{_≢_}
 use mathlib.Core.Bool.{Bool, true, false, cond}
 use mathlib.Core.List.{List, [], _∷_, _++_, append-assoc}
 use native.Mathlib.Omega.{arith}
-use lib.Dec.{ltb, eqb}
+use lib.Dec.{eqb}
 use borrow.Author.Tests.{ne-eqb, lt-ltb}
 use lib.ListN.{length}
-use Rattle.words.specs.declared.Level.{Level}
 use Rattle.words.specs.declared.Queue.{Queue}
 use Rattle.words.specs.declared.Sizes.{Sizes}
 use Rattle.words.specs.declared.Measured.the-variants.{Sized}
@@ -19,21 +17,19 @@ use Rattle.words.specs.Layout.{node, words, measured, has, rd}
 use Rattle.words.specs.Laws.{Bound, bound, measured-fits}
 use Rattle.table.specs.Points.{D1}
 use Rattle.begins.specs.Begin.{begun}
-use Rattle.answers.specs.Said.{Said, refused, says, Run, after, refusal-10}
-use Rattle.steps.specs.Step.{stepOf}
-use Rattle.steps.specs.Run.{runFrom, runOf}
+use Rattle.steps.specs.Run.{runFrom}
 use Rattle.lists.specs.Count.{Same, same, apart, same?, hit, cnt, counts}
-use Rattle.lists.specs.Beginning.{Beginning, begins-after}
+use Rattle.lists.specs.Beginning.{begins-after}
 use Rattle.state.specs.Mem.{put, put-same, put-other}
 use Rattle.state.specs.View.{memory, frames, look-rd, frame-is, memory-put, frames-put}
 use Rattle.state.specs.Queues.{own}
-use Rattle.demand.specs.History.{Event, History, handedBy, returnedBy, all, handed, returned, stillIn, listed}
-use Rattle.demand.specs.Demand.{Reached, QuietAt, firstOf, EachOnce, ListingAnswers, BeginningKept, DequeueAlone, UseTells, UseListed, NoRefusal10, D3GoesOn}
+use Rattle.demand.specs.History.{Event, handedBy, returnedBy, all, handed, returned, stillIn, listed}
+use Rattle.demand.specs.Demand.{Reached, firstOf, EachOnce, ListingAnswers, BeginningKept, DequeueAlone, UseTells, UseListed, NoRefusal10, D3GoesOn}
 use Rattle.demand.specs.World.{Invariant, World}
 use Rattle.demand.specs.Bridge.{stateOf}
 use Rattle.demand.specs.Keeps.{Keeps}
 use Rattle.demand.specs.Rows.{d3-goes}
-use Rattle.demand.specs.Steps.{StepAt, serves-at, step-at}
+use Rattle.demand.specs.Steps.{serves-at, step-at}
 use Rattle.demand.specs.Kept.{step-of, run-of, history-kept, step-unharmed, run-unharmed}
 use Rattle.demand.specs.Fresh.{Freshly, freshly, fresh-own, fresh-world}
 use Rattle.demand.specs.Moments.{

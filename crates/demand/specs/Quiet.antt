@@ -1,20 +1,20 @@
 -- A quiet queue in the table: the chain from head to tail is short enough for the table, and it is what the listing call answers.
 use Prim.Native.Nat.{ℕ, zero, suc, _+_, _≤_, _<_}
-use mathlib.Core.Path.{_≡_, refl, sym, ap, _∙_}
+use mathlib.Core.Path.{_≡_, sym, ap, _∙_}
 use mathlib.Core.Logic.{_≢_}
-use mathlib.Core.Bool.{Bool, true, false, cond, not, _&&_}
-use mathlib.Core.Option.{Option, some}
+use mathlib.Core.Bool.{Bool, true, false, cond}
+use mathlib.Core.Option.{some}
 use mathlib.Core.List.{List, [], _∷_, _++_, nil≢cons, head-eq-of-cons-eq, tail-eq-of-cons-eq}
 use native.Mathlib.Omega.{arith}
-use lib.Dec.{ltb, eqb}
-use lib.ListN.{length, length-append}
+use lib.Dec.{eqb}
+use lib.ListN.{length}
 use borrow.Author.Tests.{eq-eqb, ne-eqb, le-ltb}
 use Rattle.words.specs.declared.Sizes.{Sizes}
 use Rattle.words.specs.declared.Word.the-variants.{Next}
-use Rattle.words.specs.Layout.{node, rd, has}
+use Rattle.words.specs.Layout.{node, rd}
 use Rattle.words.specs.Laws.{Bound}
 use Rattle.asks.specs.Listing.{before, chain}
-use Rattle.lists.specs.Count.{Same, same, apart, same?, hit, cnt, cnt-nil, cnt-cons, cnt-self, counts}
+use Rattle.lists.specs.Count.{Same, same, apart, same?, cnt, cnt-nil, cnt-cons, cnt-self, counts}
 use Rattle.lists.specs.Beginning.{without, cnt-without}
 use Rattle.chains.specs.Member.{Last}
 use Rattle.chains.specs.Seg.{Seg, stop, link, seg-head, seg-rest, seg-nil}

@@ -1,20 +1,20 @@
 -- A run of steps: what its steps keep, it keeps; and it never stops by refusal 10.
 use Prim.Native.Nat.{ℕ, zero, suc, _+_}
-use mathlib.Core.Path.{_≡_, refl, _∙_}
+use mathlib.Core.Path.{_≡_, refl}
 use mathlib.Core.Logic.{_≢_}
-use mathlib.Core.List.{List, [], _∷_, _++_}
+use mathlib.Core.List.{List, []}
 use native.Mathlib.Omega.{arith}
 use Rattle.words.specs.declared.Sizes.{Sizes}
 use Rattle.words.specs.declared.Measured.the-variants.{Sized}
 use Rattle.words.specs.Layout.{measured}
-use Rattle.answers.specs.Said.{Said, says, Step, going-on, ended, Run, after, an-end, spent, nothing-runs, refusal-10}
+use Rattle.answers.specs.Said.{Said, says, going-on, ended, Run, after, an-end, spent, nothing-runs, refusal-10}
 use Rattle.steps.specs.Step.{stepSized}
 use Rattle.steps.specs.Run.{ranOn, runFrom}
 use Rattle.demand.specs.World.{Invariant, World}
 use Rattle.demand.specs.Bridge.{stateOf}
 use Rattle.demand.specs.Keeps.{Keeps, keeps-same, keeps-then}
 use Rattle.demand.specs.Steps.{Outcome, idle, took, step-taken}
-use Rattle.demand.specs.History.{returnedByStep, returnedByRun}
+use Rattle.demand.specs.History.{returnedByRun}
 
 module _ (I : Invariant) (s : Sizes) where
   -- a run that says x and leaves u

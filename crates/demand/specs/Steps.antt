@@ -2,7 +2,7 @@
 -- afterwards; what it returned is the first of what was frozen; and a node leaves its queue exactly where it is returned.
 use Prim.Native.Nat.{ℕ, zero, suc, _+_, _≤_, _<_}
 use mathlib.Core.Path.{_≡_, refl, sym, ap, _∙_}
-use mathlib.Core.Logic.{_≢_, _⊎_, inl, inr}
+use mathlib.Core.Logic.{_≢_}
 use mathlib.Core.Bool.{Bool, true, false, cond, not, _&&_}
 use mathlib.Core.List.{List, [], _∷_, _++_}
 use native.Mathlib.Omega.{arith}
@@ -21,11 +21,11 @@ use Rattle.table.specs.declared.After.{After}
 use Rattle.table.specs.declared.After.the-variants.{Go, Done}
 use Rattle.table.specs.Points.{Point, D3, D7, numberOf, pointOf}
 use Rattle.table.specs.Frames.{counted}
-use Rattle.table.specs.Table.{Row, row}
-use Rattle.answers.specs.Said.{Said, refused, says, Step}
+use Rattle.table.specs.Table.{Row}
+use Rattle.answers.specs.Said.{refused, says, Step}
 use Rattle.steps.specs.declared.Served.{Served}
 use Rattle.steps.specs.declared.Served.the-variants.{At, Nobody}
-use Rattle.steps.specs.Step.{serving, strays, sound, endOf, performed, stepFrame, stepServed, stepSized}
+use Rattle.steps.specs.Step.{serving, strays, sound, endOf, stepFrame, stepServed, stepSized}
 use Rattle.lists.specs.Count.{Same, same, apart, same?, cnt, counts}
 use Rattle.lists.specs.Beginning.{Beginning, begins-same}
 use Rattle.state.specs.Mem.{Mem, look, upd}

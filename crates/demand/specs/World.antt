@@ -3,27 +3,25 @@
 use Prim.Native.Nat.{ℕ, _≤_, _<_}
 use mathlib.Core.Path.{_≡_, refl, sym, ap, _∙_}
 use mathlib.Core.Logic.{_≢_, _⊎_, inl, inr}
-use mathlib.Core.Bool.{Bool, true, false, cond}
-use mathlib.Core.List.{List, [], _∷_, _++_}
+use mathlib.Core.Bool.{Bool, true, false}
+use mathlib.Core.List.{List, _++_}
 use native.Mathlib.Omega.{arith}
-use lib.Dec.{ltb, eqb}
+use lib.Dec.{eqb}
 use Rattle.words.specs.declared.Sizes.{Sizes}
 use Rattle.words.specs.declared.Queue.{Queue}
 use Rattle.words.specs.declared.Frame.{Frame}
-use Rattle.words.specs.declared.Word.{Word}
 use Rattle.words.specs.declared.Word.the-variants.{LevelNode, LevelQueue, Head, Tail, Next, Use}
-use Rattle.words.specs.Layout.{level, queue, node}
-use Rattle.table.specs.Frames.{counted}
+use Rattle.words.specs.Layout.{queue, node}
 use Rattle.table.specs.Table.{Row}
 use Rattle.table.specs.Points.{E1, D1, D3, numberOf}
 use Rattle.begins.specs.Begin.{begun}
 use Rattle.lists.specs.Count.{Same, same, apart, same?, cnt}
-use Rattle.lists.specs.Beginning.{Beginning, without, begins-same}
+use Rattle.lists.specs.Beginning.{Beginning, without}
 use Rattle.chains.specs.Member.{Last}
 use Rattle.chains.specs.Seg.{Seg}
-use Rattle.state.specs.Mem.{Mem, put, put-same, put-other, upd}
-use Rattle.state.specs.Step.{State, memAfter, then, frameAfter, rowOf, stepped}
-use Rattle.state.specs.Queues.{On, own, Mine, Within, load, store, free, outOf, Apart}
+use Rattle.state.specs.Mem.{put, put-same, put-other, upd}
+use Rattle.state.specs.Step.{State, memAfter, rowOf, stepped}
+use Rattle.state.specs.Queues.{On, own, Within, load, store, free, outOf, Apart}
 use Rattle.demand.specs.Rows.{nextFrame, next-frame}
 use Rattle.demand.specs.Apart.{own-use, apart-step, apart-dequeue, apart-enqueue}
 

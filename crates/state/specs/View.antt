@@ -16,7 +16,7 @@ use Rattle.words.specs.declared.Word.the-variants.{LevelNode, LevelQueue, Head,
 use Rattle.words.specs.Layout.{level, queue, node, words, within, has, rd, wr, frameOf, putFrame, noFrame}
 use Rattle.words.specs.Laws.{rd-same, rd-other, rd-put, frame-wr, frame-same, frame-other}
 use Rattle.lists.specs.Count.{Same, same, apart, same?}
-use Rattle.state.specs.Mem.{Mem, look, put, put-same, put-other, upd}
+use Rattle.state.specs.Mem.{Mem, look, put, upd}
 
 -- a word's value, 0 where the table has no such word
 unfoldable pub seen : Sizes → List ℕ → Word → ℕ
