@@ -1,17 +1,2 @@
 pub mod History
 pub mod Demand
-pub mod Rows
-pub mod Apart
-pub mod Alone
-pub mod World
-pub mod Bridge
-pub mod Keeps
-pub mod Steps
-pub mod Runs
-pub mod Begins
-pub mod Kept
-pub mod Quiet
-pub mod Fresh
-pub mod Moments
-pub mod Dequeue
-pub mod Proof

@@ -10,12 +10,12 @@ use Rattle.words.specs.Layout.{measured}
 use Rattle.answers.specs.Said.{refused, says, after, refusal-10}
 use Rattle.steps.specs.Step.{stepMeasured, stepOf, stepSized}
 use Rattle.steps.specs.Run.{runFrom, runMeasured, runOf}
-use Rattle.demand.specs.World.{Invariant, World}
-use Rattle.demand.specs.Bridge.{stateOf, same-said, no-answer, other-number}
-use Rattle.demand.specs.Keeps.{Keeps, keeps-same, keeps-then}
-use Rattle.demand.specs.Steps.{Outcome, idle, took, step-taken}
-use Rattle.demand.specs.Runs.{run-kept}
-use Rattle.demand.specs.Begins.{enqueue-kept, dequeue-kept}
+use Rattle.demand.proofs.World.{Invariant, World}
+use Rattle.demand.proofs.Bridge.{stateOf, same-said, no-answer, other-number}
+use Rattle.demand.proofs.Keeps.{Keeps, keeps-same, keeps-then}
+use Rattle.demand.proofs.Steps.{Outcome, idle, took, step-taken}
+use Rattle.demand.proofs.Runs.{run-kept}
+use Rattle.demand.proofs.Begins.{enqueue-kept, dequeue-kept}
 use Rattle.demand.specs.History.{Event, Accepted, enqueue, dequeue, step, run, ask, History, none, call, handedBy, returnedByStep, returnedBy, all}
 
 pub step-of : (s : Sizes) (t : List ℕ) → measured t ≡ Sized s → stepOf t ≡ stepSized s t

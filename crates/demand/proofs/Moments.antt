@@ -26,11 +26,11 @@ use Rattle.lists.specs.Beginning.{without, cnt-without}
 use Rattle.chains.specs.Seg.{Seg, stop, link}
 use Rattle.state.specs.View.{memory, frames, look-rd, frame-is, frame-idle, uses-past}
 use Rattle.state.specs.Queues.{On, own}
-use Rattle.demand.specs.World.{Invariant, World, Chained}
-use Rattle.demand.specs.Bridge.{stateOf, has-is, other-number}
-use Rattle.demand.specs.Begins.{none-of}
-use Rattle.demand.specs.Quiet.{once-short, chain-is, along-is, first-is}
-use Rattle.demand.specs.Alone.{First}
+use Rattle.demand.proofs.World.{Invariant, World, Chained}
+use Rattle.demand.proofs.Bridge.{stateOf, has-is, other-number}
+use Rattle.demand.proofs.Begins.{none-of}
+use Rattle.demand.proofs.Quiet.{once-short, chain-is, along-is, first-is}
+use Rattle.demand.proofs.Alone.{First}
 use Rattle.demand.specs.History.{stillIn}
 use Rattle.demand.specs.Demand.{QuietAt, firstOf}
 

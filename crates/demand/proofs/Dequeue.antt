@@ -18,11 +18,11 @@ use Rattle.steps.specs.Run.{ranOn, runFrom}
 use Rattle.state.specs.Mem.{Mem, put, put-same, put-other}
 use Rattle.state.specs.Step.{memAfter, then, frameAfter, rowOf}
 use Rattle.state.specs.View.{memory, frames, frame-is}
-use Rattle.demand.specs.Rows.{goes-on}
-use Rattle.demand.specs.World.{Invariant, World}
-use Rattle.demand.specs.Bridge.{stateOf, saysOf}
-use Rattle.demand.specs.Steps.{StepAt, step-at}
-use Rattle.demand.specs.Alone.{Runs, last, more}
+use Rattle.demand.proofs.Rows.{goes-on}
+use Rattle.demand.proofs.World.{Invariant, World}
+use Rattle.demand.proofs.Bridge.{stateOf, saysOf}
+use Rattle.demand.proofs.Steps.{StepAt, step-at}
+use Rattle.demand.proofs.Alone.{Runs, last, more}
 
 -- a run that stopped since the operation of frame f at level l ended, with node x
 pub record Ends (l : ℕ) (f : Frame) (x : ℕ) (out : Said Run × List ℕ) : Type 0 where

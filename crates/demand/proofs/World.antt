@@ -22,8 +22,8 @@ use Rattle.chains.specs.Seg.{Seg}
 use Rattle.state.specs.Mem.{put, put-same, put-other, upd}
 use Rattle.state.specs.Step.{State, memAfter, rowOf, stepped}
 use Rattle.state.specs.Queues.{On, own, Within, load, store, free, outOf, Apart}
-use Rattle.demand.specs.Rows.{nextFrame, next-frame}
-use Rattle.demand.specs.Apart.{own-use, apart-step, apart-dequeue, apart-enqueue}
+use Rattle.demand.proofs.Rows.{nextFrame, next-frame}
+use Rattle.demand.proofs.Apart.{own-use, apart-step, apart-dequeue, apart-enqueue}
 
 -- ---- what is needed of one queue's invariant; the last list is the queue's frozen beginning
 

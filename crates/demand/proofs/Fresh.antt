@@ -21,8 +21,8 @@ use Rattle.lists.specs.Beginning.{without, without-self}
 use Rattle.chains.specs.Seg.{stop, link}
 use Rattle.state.specs.View.{levelQueue, headOf, tailOf, nextOf, useOf, seen, memory, frames, frame-idle, uses-past}
 use Rattle.state.specs.Queues.{own}
-use Rattle.demand.specs.World.{Invariant, World, Chained}
-use Rattle.demand.specs.Bridge.{stateOf, has-is, same-said, no-answer}
+use Rattle.demand.proofs.World.{Invariant, World, Chained}
+use Rattle.demand.proofs.Bridge.{stateOf, has-is, same-said, no-answer}
 
 -- a fresh table that was accepted, as the theory sees it: zeros, but for head and tail of the queues
 pub record Freshly (s : Sizes) (t : List ℕ) : Type 0 where

@@ -10,8 +10,8 @@ use Rattle.lists.specs.Count.{cnt, counts}
 use Rattle.lists.specs.Beginning.{Beginning, begins-same, begins-trans, begins-after}
 use Rattle.state.specs.View.{memory}
 use Rattle.state.specs.Queues.{own}
-use Rattle.demand.specs.World.{Invariant, World}
-use Rattle.demand.specs.Bridge.{stateOf}
+use Rattle.demand.proofs.World.{Invariant, World}
+use Rattle.demand.proofs.Bridge.{stateOf}
 
 module _ (I : Invariant) where
   pub record Keeps (s : Sizes) (t : List ℕ) (fronts : ℕ → List ℕ) (returned handed : ℕ → List ℕ) (u : List ℕ) : Type 0 where

@@ -25,14 +25,14 @@ use Rattle.state.specs.View.{memory, frames, look-rd, frame-is, memory-put, fra
 use Rattle.state.specs.Queues.{own}
 use Rattle.demand.specs.History.{Event, handedBy, returnedBy, all, handed, returned, stillIn, listed}
 use Rattle.demand.specs.Demand.{Reached, firstOf, EachOnce, ListingAnswers, BeginningKept, DequeueAlone, UseTells, UseListed, NoRefusal10, D3GoesOn}
-use Rattle.demand.specs.World.{Invariant, World}
-use Rattle.demand.specs.Bridge.{stateOf}
-use Rattle.demand.specs.Keeps.{Keeps}
-use Rattle.demand.specs.Rows.{d3-goes}
-use Rattle.demand.specs.Steps.{serves-at, step-at}
-use Rattle.demand.specs.Kept.{step-of, run-of, history-kept, step-unharmed, run-unharmed}
-use Rattle.demand.specs.Fresh.{Freshly, freshly, fresh-own, fresh-world}
-use Rattle.demand.specs.Moments.{
+use Rattle.demand.proofs.World.{Invariant, World}
+use Rattle.demand.proofs.Bridge.{stateOf}
+use Rattle.demand.proofs.Keeps.{Keeps}
+use Rattle.demand.proofs.Rows.{d3-goes}
+use Rattle.demand.proofs.Steps.{serves-at, step-at}
+use Rattle.demand.proofs.Kept.{step-of, run-of, history-kept, step-unharmed, run-unharmed}
+use Rattle.demand.proofs.Fresh.{Freshly, freshly, fresh-own, fresh-world}
+use Rattle.demand.proofs.Moments.{
   Nobody,
   quietly,
   own-sentinel,
@@ -44,9 +44,9 @@ use Rattle.demand.specs.Moments.{
   listing-is,
   listing-unharmed,
 }
-use Rattle.demand.specs.Begins.{CanDequeue, can-dequeue, dequeue-kept}
-use Rattle.demand.specs.Alone.{alone}
-use Rattle.demand.specs.Dequeue.{Ends, Next, run-ends}
+use Rattle.demand.proofs.Begins.{CanDequeue, can-dequeue, dequeue-kept}
+use Rattle.demand.proofs.Alone.{alone}
+use Rattle.demand.proofs.Dequeue.{Ends, Next, run-ends}
 
 all-append : (f : Event → List ℕ) (es fs : List Event) → all f (es ++ fs) ≡ all f es ++ all f fs
 all-append f [] fs = refl

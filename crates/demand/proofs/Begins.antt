@@ -28,10 +28,10 @@ use Rattle.lists.specs.Beginning.{begins-same}
 use Rattle.state.specs.Mem.{Mem, put, upd}
 use Rattle.state.specs.View.{memory, frames, look-rd, frame-is, frame-idle, memory-wr, frames-wr, memory-put, frames-put}
 use Rattle.state.specs.Queues.{own}
-use Rattle.demand.specs.Apart.{own-put, own-handed}
-use Rattle.demand.specs.World.{Invariant, World, IdleFrom, enqueueBegun, world-enqueue, world-dequeue}
-use Rattle.demand.specs.Bridge.{stateOf, has-is}
-use Rattle.demand.specs.Keeps.{Keeps}
+use Rattle.demand.proofs.Apart.{own-put, own-handed}
+use Rattle.demand.proofs.World.{Invariant, World, IdleFrom, enqueueBegun, world-enqueue, world-dequeue}
+use Rattle.demand.proofs.Bridge.{stateOf, has-is}
+use Rattle.demand.proofs.Keeps.{Keeps}
 
 -- ---- conditions that do not hold
 

@@ -10,10 +10,10 @@ use Rattle.words.specs.Layout.{measured}
 use Rattle.answers.specs.Said.{Said, says, going-on, ended, Run, after, an-end, spent, nothing-runs, refusal-10}
 use Rattle.steps.specs.Step.{stepSized}
 use Rattle.steps.specs.Run.{ranOn, runFrom}
-use Rattle.demand.specs.World.{Invariant, World}
-use Rattle.demand.specs.Bridge.{stateOf}
-use Rattle.demand.specs.Keeps.{Keeps, keeps-same, keeps-then}
-use Rattle.demand.specs.Steps.{Outcome, idle, took, step-taken}
+use Rattle.demand.proofs.World.{Invariant, World}
+use Rattle.demand.proofs.Bridge.{stateOf}
+use Rattle.demand.proofs.Keeps.{Keeps, keeps-same, keeps-then}
+use Rattle.demand.proofs.Steps.{Outcome, idle, took, step-taken}
 use Rattle.demand.specs.History.{returnedByRun}
 
 module _ (I : Invariant) (s : Sizes) where

@@ -16,7 +16,7 @@ use Rattle.table.specs.Table.{Row}
 use Rattle.lists.specs.Count.{Same, same, apart, same?, hit}
 use Rattle.state.specs.Mem.{Mem, put, put-same, put-other, upd}
 use Rattle.state.specs.Step.{State, memAfter, rowOf, stepped}
-use Rattle.demand.specs.Rows.{nextFrame, next-frame}
+use Rattle.demand.proofs.Rows.{nextFrame, next-frame}
 use Rattle.state.specs.Queues.{On, own, Mine, Within, load, store, free, Alike, still, others, Apart}
 
 -- ---- nodes

@@ -20,10 +20,10 @@ use Rattle.chains.specs.Member.{Last}
 use Rattle.chains.specs.Seg.{Seg, stop, link, seg-head, seg-rest, seg-nil}
 use Rattle.state.specs.Mem.{Mem}
 use Rattle.state.specs.View.{memory, look-rd}
-use Rattle.demand.specs.Bridge.{has-is}
+use Rattle.demand.proofs.Bridge.{has-is}
 use Rattle.demand.specs.History.{along}
 use Rattle.demand.specs.Demand.{firstOf}
-use Rattle.demand.specs.Alone.{First, nothing, user, behind}
+use Rattle.demand.proofs.Alone.{First, nothing, user, behind}
 
 -- ---- a list that holds each of the numbers 1..n once at most is no longer than n
 

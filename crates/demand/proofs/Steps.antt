@@ -32,11 +32,11 @@ use Rattle.state.specs.Mem.{Mem, look, upd}
 use Rattle.state.specs.Step.{State, memAfter, then, rowOf, stepped}
 use Rattle.state.specs.View.{memory, frames, frame-is, frame-idle}
 use Rattle.state.specs.Queues.{On, own, Mine, Within, load, store, free, outOf}
-use Rattle.demand.specs.World.{Invariant, World, Moving, world-step}
-use Rattle.demand.specs.Rows.{Plain, goes, empty, handed, Plainly, row-plain, number-D7}
-use Rattle.demand.specs.Apart.{own-use, own-put, own-freed}
-use Rattle.demand.specs.Bridge.{stateOf, saysOf, Bridged, performed-is}
-use Rattle.demand.specs.Keeps.{Keeps}
+use Rattle.demand.proofs.World.{Invariant, World, Moving, world-step}
+use Rattle.demand.proofs.Rows.{Plain, goes, empty, handed, Plainly, row-plain, number-D7}
+use Rattle.demand.proofs.Apart.{own-use, own-put, own-freed}
+use Rattle.demand.proofs.Bridge.{stateOf, saysOf, Bridged, performed-is}
+use Rattle.demand.proofs.Keeps.{Keeps}
 use Rattle.demand.specs.History.{returnedAtEnd, returnedByStep}
 
 -- ---- the level that a step serves
