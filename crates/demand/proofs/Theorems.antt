@@ -18,6 +18,8 @@ use Rattle.words.specs.Laws.{Bound, bound, measured-fits}
 use Rattle.table.specs.Points.{D1}
 use Rattle.begins.specs.Begin.{begun}
 use Rattle.steps.specs.Run.{runFrom}
+use Rattle.answers.specs.declared.End.{End}
+use Rattle.answers.specs.Said.{says, after, an-end}
 use Rattle.lists.specs.Count.{Same, same, apart, same?, hit, cnt, counts}
 use Rattle.lists.specs.Beginning.{begins-after}
 use Rattle.state.specs.Mem.{put, put-same, put-other}
@@ -46,7 +48,7 @@ use Rattle.demand.proofs.Moments.{
 }
 use Rattle.demand.proofs.Begins.{CanDequeue, can-dequeue, dequeue-kept}
 use Rattle.demand.proofs.Alone.{alone}
-use Rattle.demand.proofs.Dequeue.{Ends, Next, run-ends}
+use Rattle.demand.proofs.Dequeue.{Ending, Next, Going, run-ends, history-goes}
 
 all-append : (f : Event → List ℕ) (es fs : List Event) → all f (es ++ fs) ≡ all f es ++ all f fs
 all-append f [] fs = refl
@@ -112,16 +114,16 @@ module _ (I : Invariant) where
         (begins-after (returned q es) (k .fronts (q .0)) (returned q fs ++ m .fronts′ (q .0)) (m .begins (q .0)))
 
     pub dequeue-alone : DequeueAlone s es t q
-    dequeue-alone l u r quiet h budget enough = (
-      e .steps,
-      e .end,
-      e .table,
-      run-of s budget u (n .sized) ∙ e .is,
-      e .op,
-      e .level-is,
-      e .queue-is,
-      e .node-is,
-      λ z. still-none I s t (k .fronts) (k .sized) (k .world) q nb (sym (e .node-is) ∙ z),
+    dequeue-alone l u v fs r quiet h later calm budget enough = (
+      e .0,
+      e .1,
+      e .2,
+      run-of s budget v (w .next .sized) ∙ e .3,
+      e .4 .op,
+      e .4 .level-is,
+      e .4 .queue-is,
+      e .4 .node-is,
+      λ z. still-none I s t (k .fronts) (k .sized) (k .world) q nb (sym (e .4 .node-is) ∙ z),
     )
       where
         k : Here s es t
@@ -145,8 +147,8 @@ module _ (I : Invariant) where
         frames-are : frames s u ≡ put (frames s t) (l .0) g
         frames-are = rw (c .table) (frames-put s t room l (c .low) g)
 
-        n : Next I s (l .0) (c .low) (memory s t) g u (m .fronts′)
-        n =
+        next : Next I s (l .0) (c .low) (memory s t) g u (m .fronts′)
+        next =
             record {
               sized = m .sized;
               world = m .world;
@@ -156,13 +158,30 @@ module _ (I : Invariant) where
               top = λ j a. rw (frames-are, put-other (frames s t) (l .0) g j (omega arith)) (c .idle j (omega arith));
             }
 
-        e : Ends (l .0) g (firstOf (stillIn s t q)) (runFrom s budget 0 u)
-        e =
+        begins : Going I s (l .0) (c .low) 2 q (firstOf (stillIn s t q)) (22 + l .0) u
+        begins =
             let a =
             alone (s .levels) (l .0) (q .0) (memory s t) 0 0 0 g (nb .some-queue) (off I s t (k .fronts) (k .sized) (k .world) q nb)
             (still-first I s t (k .fronts) (k .sized) (k .world) q nb)
             in
-            run-ends I s (l .0) (c .low) (a .0) (a .2) u (m .fronts′) n budget 0 (omega arith)
+            record {
+              steps = a .0;
+              M = memory s t;
+              f = g;
+              fronts = m .fronts′;
+              few = a .1;
+              runs = a .2;
+              next = next;
+              op = refl;
+              queue-is = refl;
+            }
+
+        w : Going I s (l .0) (c .low) 2 q (firstOf (stillIn s t q)) (22 + l .0) v
+        w = history-goes I s (l .0) (c .low) (22 + l .0) u v fs begins later calm
+
+        e : (steps : ℕ) × (e : End) × (z : List ℕ) × (runFrom s budget 0 v ≡ (says (after steps (an-end e)), z))
+            × Ending (l .0) 2 q (firstOf (stillIn s t q)) e
+        e = run-ends I s (l .0) (c .low) (22 + l .0) v w budget 0 enough
 
   module _ (s : Sizes) (es : List Event) (t : List ℕ) (q : Queue) (n : Node) where
     -- a user's node is a queue's where its use names it

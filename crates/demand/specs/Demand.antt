@@ -14,7 +14,7 @@ use Rattle.words.specs.declared.Sizes.{Sizes}
 use Rattle.words.specs.declared.Word.the-variants.{Head, Use}
 use Rattle.words.specs.Layout.{has, rd, frameOf}
 use Rattle.answers.specs.declared.End.{End}
-use Rattle.answers.specs.Said.{refused, says, going-on, after, an-end, refusal-10}
+use Rattle.answers.specs.Said.{refused, says, going-on, ended, after, an-end, spent, nothing-runs, refusal-10}
 use Rattle.fresh.specs.Fresh.{freshOf}
 use Rattle.begins.specs.Begin.{dequeueOf}
 use Rattle.steps.specs.Step.{serving, stepOf}
@@ -25,7 +25,19 @@ use Rattle.asks.specs.Listing.{listingOf}
 use Rattle.table.specs.Points.{D3, numberOf}
 use Rattle.lists.specs.Count.{hit, cnt}
 use Rattle.lists.specs.Beginning.{Beginning}
-use Rattle.demand.specs.History.{Event, History, handed, returned, stillIn, listed}
+use Rattle.demand.specs.History.{
+  Event,
+  enqueued,
+  dequeued,
+  stepped,
+  ran,
+  asked,
+  History,
+  handed,
+  returned,
+  stillIn,
+  listed,
+}
 
 -- es are the accepted calls from a fresh table to t
 abbrev pub Reached : Sizes → List Event → List ℕ → Type 0
@@ -34,6 +46,22 @@ Reached s es t = (lent fresh : List ℕ) × (freshOf s lent ≡ (says tt, fresh)
 -- a quiet moment of queue q
 abbrev pub QuietAt : List ℕ → Queue → Type 0
 QuietAt t q = quietOf t q ≡ says true
+
+-- calls that begin nothing, and in which nothing ends
+abbrev pub Uneventful : Event → Type 0
+Uneventful (enqueued l q n) = ⊥
+Uneventful (dequeued l q) = ⊥
+Uneventful (stepped going-on) = Unit
+Uneventful (stepped (ended e)) = ⊥
+Uneventful (ran budget (after n (an-end e))) = ⊥
+Uneventful (ran budget (after n spent)) = Unit
+Uneventful (ran budget (after n nothing-runs)) = Unit
+Uneventful (ran budget (after n refusal-10)) = Unit
+Uneventful asked = Unit
+
+abbrev pub AllUneventful : List Event → Type 0
+AllUneventful [] = Unit
+AllUneventful (e ∷ es) = Uneventful e × AllUneventful es
 
 -- the first node of a list, 0 for none
 abbrev pub firstOf : List ℕ → ℕ
@@ -57,11 +85,13 @@ module _ (s : Sizes) (es : List Event) (t : List ℕ) (q : Queue) where
       (fs : List Event) (u : List ℕ) → Reached s es t → QuietAt t q → History t fs u → QuietAt u q
       → Beginning (listed s q es t) (listed s q (es ++ fs) u)
 
-  -- A dequeue begun when q is quiet, with nothing begun before it ends: it ends, and returns the first node still in q, or empty exactly if there is none.
+  -- A dequeue begun when q is quiet, with nothing begun before it ends: from wherever its steps have come, a run of 22 + l steps ends it,
+  -- and it returns the first node still in q when it began, or empty exactly if there was none.
   abbrev pub DequeueAlone : Type 0
   DequeueAlone =
-      (l : Level) (u : List ℕ) → Reached s es t → QuietAt t q → dequeueOf t l q ≡ (says tt, u) → (budget : ℕ) → 22 + l .0 ≤ budget
-      → (steps : ℕ) × (e : End) × (v : List ℕ) × (runOf budget u ≡ (says (after steps (an-end e)), v))
+      (l : Level) (u v : List ℕ) (fs : List Event) → Reached s es t → QuietAt t q → dequeueOf t l q ≡ (says tt, u)
+      → History u fs v → AllUneventful fs → (budget : ℕ) → 22 + l .0 ≤ budget
+      → (steps : ℕ) × (e : End) × (w : List ℕ) × (runOf budget v ≡ (says (after steps (an-end e)), w))
       × (e .op ≡ 2) × (e .level ≡ l) × (e .queue ≡ q) × (e .node .0 ≡ firstOf (stillIn s t q)) × (e .node .0 ≡ 0 → stillIn s t q ≡ [])
 
 module _ (s : Sizes) (es : List Event) (t : List ℕ) (q : Queue) (n : Node) where
