@@ -34,14 +34,14 @@ pub record View : Type 0 where
   pub tail : ℕ
   pub settled : List ℕ
 
--- ---- the hot list over a stack
+-- ---- the hot list over a stack, whose chain has the origin o and the start s, and t follows it
 
 -- it begins with the start of its chain and leads to what follows it; where nothing follows in the queue's own chain, it is tail alone
-pub record Hot (top : ℕ) (next : ℕ → ℕ) (tail : ℕ) (st : Stack) (x : List ℕ) : Type 0 where
+pub record Hot (top : ℕ) (next : ℕ → ℕ) (o s t : ℕ) (x : List ℕ) : Type 0 where
   pub more : List ℕ
-  pub begins : x ≡ start tail st ∷ more
-  pub linked : Seg next (start tail st) x (follow st)
-  pub alone : origin top st ≡ top → follow st ≡ 0 → more ≡ []
+  pub begins : x ≡ s ∷ more
+  pub linked : Seg next s x t
+  pub alone : o ≡ top → t ≡ 0 → more ≡ []
 
 -- ---- an operation that is not registered
 
@@ -59,7 +59,7 @@ pub data Loose (q : ℕ) (next : ℕ → ℕ) (ln head : ℕ) (S : List ℕ) : P
   d6 : {g : Regs} → g .op ≡ 2 → g .c ≡ q → Loose q next ln head S D6 g (g .c ∷ []) []
   d7 : {g : Regs} → g .op ≡ 2 → g .c ≢ q → Loose q next ln head S D7 g [] (g .c ∷ [])
 
--- ---- an operation that is registered and not linked in, over the stack st with the hot list x
+-- ---- an operation that is registered and not linked in, over a stack with the hot list x and the nodes lower in its lists
 
 -- no level between k and l is registered
 abbrev pub Free : (ℕ → ℕ) → ℕ → ℕ → ℕ → Type 0
@@ -73,9 +73,9 @@ pub record Highest (lq : ℕ → ℕ) (q k l : ℕ) : Type 0 where
 
 -- p is what that level shows, and the operation there still goes on: it is the first node of that level's own chain, or a mark,
 -- before which the search looks for a place; then P holds of the search
-pub data Aim (top tail : ℕ) (st : Stack) (p : ℕ) (P : Type 0) : Type 0 where
-  behind : origin top st ≢ top → follow st ≡ 0 → p ≡ start tail st → Aim top tail st p P
-  before : p ≡ follow st → p ≢ 0 → P → Aim top tail st p P
+pub data Aim (top o s t p : ℕ) (P : Type 0) : Type 0 where
+  behind : o ≢ top → t ≡ 0 → p ≡ s → Aim top o s t p P
+  before : p ≡ t → p ≢ 0 → P → Aim top o s t p P
 
 -- the search from level m downwards has not passed the owner of the chain
 abbrev pub NotPast : ℕ → ℕ → ℕ → Type 0
@@ -88,23 +88,23 @@ pub record Walking (top o m c : ℕ) (x : List ℕ) : Type 0 where
   pub more : o ≢ top → m ≢ top
 
 -- settled: the highest registered level below is one whose work is done
-pub data Unlinked (top q l : ℕ) (ln lq next : ℕ → ℕ) (tail : ℕ) (st : Stack) (x : List ℕ) (settled : Bool) : Point → Regs → Type 0 where
-  e3 : {g : Regs} → g .k < l → Free lq q (g .k) l → Unlinked top q l ln lq next tail st x settled E3 g
-  e4 : {g : Regs} → Highest lq q (g .k) l → Unlinked top q l ln lq next tail st x settled E4 g
-  e5 : {g : Regs} → Highest lq q (g .k) l → g .p ≡ ln (g .k) → Unlinked top q l ln lq next tail st x settled E5 g
-  e6 : {g : Regs} → Highest lq q (g .k) l → settled ≡ true → Unlinked top q l ln lq next tail st x settled E6 g
-  e7 : {g : Regs} → ((j : ℕ) → j < l → lq j ≢ q) → Unlinked top q l ln lq next tail st x settled E7 g
-  e8 : {g : Regs} → ((j : ℕ) → j < l → lq j ≢ q) → g .c ≡ tail → Unlinked top q l ln lq next tail st x settled E8 g
-  e9 : {g : Regs} → ((j : ℕ) → j < l → lq j ≢ q) → g .c ≡ tail → Unlinked top q l ln lq next tail st x settled E9 g
-  e13 : {g : Regs} → settled ≡ false → Aim top tail st (g .p) (NotPast top (origin top st) (g .m)) → g .m < l → Unlinked top q l ln lq next tail st x settled E13 g
-  e14 : {g : Regs} → settled ≡ false → Aim top tail st (g .p) (NotPast top (origin top st) (g .m)) → g .m < l → lq (g .m) ≡ q → Unlinked top q l ln lq next tail st x settled E14 g
-  e15 : {g : Regs} → settled ≡ false → Aim top tail st (g .p) (origin top st ≡ top) → Unlinked top q l ln lq next tail st x settled E15 g
-  e16 : {g : Regs} → settled ≡ false → Aim top tail st (g .p) (Walking top (origin top st) (g .m) (g .c) x) → (g .m ≢ top → g .m < l)
-      → 0 < cnt (g .c) (x ++ lists st) → Unlinked top q l ln lq next tail st x settled E16 g
-  e17 : {g : Regs} → settled ≡ false → Aim top tail st (g .p) ⊥ → Unlinked top q l ln lq next tail st x settled E17 g
-  e18 : {g : Regs} → settled ≡ false → Aim top tail st (g .p) ⊥ → g .r ≡ next (g .p) → Unlinked top q l ln lq next tail st x settled E18 g
-  e21 : {g : Regs} → settled ≡ false → g .p ≡ follow st → g .p ≢ 0 → Last (g .a) x → Unlinked top q l ln lq next tail st x settled E21 g
-  e22 : {g : Regs} → settled ≡ false → g .p ≡ follow st → g .p ≢ 0 → Last (g .a) x → g .r ≡ g .p → Unlinked top q l ln lq next tail st x settled E22 g
+pub data Unlinked (top q l : ℕ) (ln lq next : ℕ → ℕ) (tail o s t : ℕ) (x lower : List ℕ) (settled : Bool) : Point → Regs → Type 0 where
+  e3 : {g : Regs} → g .k < l → Free lq q (g .k) l → Unlinked top q l ln lq next tail o s t x lower settled E3 g
+  e4 : {g : Regs} → Highest lq q (g .k) l → Unlinked top q l ln lq next tail o s t x lower settled E4 g
+  e5 : {g : Regs} → Highest lq q (g .k) l → g .p ≡ ln (g .k) → Unlinked top q l ln lq next tail o s t x lower settled E5 g
+  e6 : {g : Regs} → Highest lq q (g .k) l → settled ≡ true → Unlinked top q l ln lq next tail o s t x lower settled E6 g
+  e7 : {g : Regs} → ((j : ℕ) → j < l → lq j ≢ q) → Unlinked top q l ln lq next tail o s t x lower settled E7 g
+  e8 : {g : Regs} → ((j : ℕ) → j < l → lq j ≢ q) → g .c ≡ tail → Unlinked top q l ln lq next tail o s t x lower settled E8 g
+  e9 : {g : Regs} → ((j : ℕ) → j < l → lq j ≢ q) → g .c ≡ tail → Unlinked top q l ln lq next tail o s t x lower settled E9 g
+  e13 : {g : Regs} → settled ≡ false → Aim top o s t (g .p) (NotPast top o (g .m)) → g .m < l → Unlinked top q l ln lq next tail o s t x lower settled E13 g
+  e14 : {g : Regs} → settled ≡ false → Aim top o s t (g .p) (NotPast top o (g .m)) → g .m < l → lq (g .m) ≡ q → Unlinked top q l ln lq next tail o s t x lower settled E14 g
+  e15 : {g : Regs} → settled ≡ false → Aim top o s t (g .p) (o ≡ top) → Unlinked top q l ln lq next tail o s t x lower settled E15 g
+  e16 : {g : Regs} → settled ≡ false → Aim top o s t (g .p) (Walking top o (g .m) (g .c) x) → (g .m ≢ top → g .m < l)
+      → 0 < cnt (g .c) (x ++ lower) → Unlinked top q l ln lq next tail o s t x lower settled E16 g
+  e17 : {g : Regs} → settled ≡ false → Aim top o s t (g .p) ⊥ → Unlinked top q l ln lq next tail o s t x lower settled E17 g
+  e18 : {g : Regs} → settled ≡ false → Aim top o s t (g .p) ⊥ → g .r ≡ next (g .p) → Unlinked top q l ln lq next tail o s t x lower settled E18 g
+  e21 : {g : Regs} → settled ≡ false → g .p ≡ t → g .p ≢ 0 → Last (g .a) x → Unlinked top q l ln lq next tail o s t x lower settled E21 g
+  e22 : {g : Regs} → settled ≡ false → g .p ≡ t → g .p ≢ 0 → Last (g .a) x → g .r ≡ g .p → Unlinked top q l ln lq next tail o s t x lower settled E22 g
 
 -- ---- an operation that is linked in: its piece is p ∷ w, and t follows it
 
@@ -141,7 +141,8 @@ module _ (top q : ℕ) (v : View) where
     is-done : {g : Regs} {st : Stack}
       → v .lq l ≡ q → v .ln l ≡ v .tail → origin top st ≡ top → Here l E28 g (loose [] []) st false true
     is-owner : {p : Point} {g : Regs} {x : List ℕ} {st : Stack} {b : Bool}
-      → v .lq l ≡ q → v .ln l ≡ g .n → Hot top (v .next) (v .tail) st x → Unlinked top q l (v .ln) (v .lq) (v .next) (v .tail) st x b p g
+      → v .lq l ≡ q → v .ln l ≡ g .n → Hot top (v .next) (origin top st) (start (v .tail) st) (follow st) x
+      → Unlinked top q l (v .ln) (v .lq) (v .next) (v .tail) (origin top st) (start (v .tail) st) (follow st) x (lists st) b p g
       → Here l p g (owner (g .n) x) st b false
     is-mark : {p : Point} {g : Regs} {s : ℕ} {w : List ℕ} {st : Stack}
       → v .lq l ≡ q → v .ln l ≡ s → Linked top (v .next) (v .tail) (origin top st) (follow st) s w p g → Here l p g (mark s w) st false false

@@ -48,21 +48,20 @@ module _ {q : ℕ} {next next′ : ℕ → ℕ} {head head′ : ℕ} {S S′ : L
 
 -- ---- a frame that is not linked in
 
-keep-hot : {top : ℕ} {next next′ : ℕ → ℕ} {tail tail′ : ℕ} {st : Stack} {x : List ℕ} → ((y : ℕ) → 0 < cnt y x → next′ y ≡ next y) → tail′ ≡ tail
-    → Hot top next tail st x → Hot top next′ tail′ st x
-keep-hot next= tail= h = rw tail= (record { more = h .more; begins = h .begins; linked = seg-same next= (h .linked); alone = h .alone })
+pub keep-hot : {top o s t : ℕ} {next next′ : ℕ → ℕ} {x : List ℕ} → ((y : ℕ) → 0 < cnt y x → next′ y ≡ next y) → Hot top next o s t x → Hot top next′ o s t x
+keep-hot next= h = record { more = h .more; begins = h .begins; linked = seg-same next= (h .linked); alone = h .alone }
 
 keep-highest : {q l k : ℕ} {lq lq′ : ℕ → ℕ} → ((j : ℕ) → j < l → lq′ j ≡ lq j) → Highest lq q k l → Highest lq′ q k l
 keep-highest {k = k} lq= h = record { below = h .below; registered = lq= k (h .below) ∙ h .registered; free = λ j a b. rw (lq= j b) (h .free j a b) }
 
 -- the first node of a chain is in its hot list
-aim-first : {top tail p : ℕ} {next : ℕ → ℕ} {st : Stack} {x : List ℕ} → Hot top next tail st x → Aim top tail st p ⊥ → 0 < cnt p x
-aim-first {tail = tail} {st = st} o (behind r t i) = rw (i, o .begins) (cnt-self (start tail st) (o .more))
-aim-first o (before i z r) = absurd r
+pub aim-first : {top o s t p : ℕ} {next : ℕ → ℕ} {x : List ℕ} → Hot top next o s t x → Aim top o s t p ⊥ → 0 < cnt p x
+aim-first {s = s} h (behind r t i) = rw (i, h .begins) (cnt-self s (h .more))
+aim-first h (before i z r) = absurd r
 
-keep-unlinked : {top q l : ℕ} {ln ln′ lq lq′ next next′ : ℕ → ℕ} {tail tail′ : ℕ} {st : Stack} {x : List ℕ} {b : Bool} {p : Point} {g : Regs}
+keep-unlinked : {top q l : ℕ} {ln ln′ lq lq′ next next′ : ℕ → ℕ} {tail tail′ o s t : ℕ} {x lower : List ℕ} {b : Bool} {p : Point} {g : Regs}
     → ((j : ℕ) → j < l → ln′ j ≡ ln j) → ((j : ℕ) → j < l → lq′ j ≡ lq j) → ((y : ℕ) → 0 < cnt y x → next′ y ≡ next y) → tail′ ≡ tail
-    → Hot top next tail st x → Unlinked top q l ln lq next tail st x b p g → Unlinked top q l ln′ lq′ next′ tail′ st x b p g
+    → Hot top next o s t x → Unlinked top q l ln lq next tail o s t x lower b p g → Unlinked top q l ln′ lq′ next′ tail′ o s t x lower b p g
 keep-unlinked ln= lq= next= tail= o (e3 a h) = e3 a (λ j i k. rw (lq= j k) (h j i k))
 keep-unlinked ln= lq= next= tail= o (e4 h) = e4 (keep-highest lq= h)
 keep-unlinked ln= lq= next= tail= o (e5 {g = g} h e) = e5 (keep-highest lq= h) (e ∙ sym (ln= (g .k) (h .below)))
@@ -70,12 +69,12 @@ keep-unlinked ln= lq= next= tail= o (e6 h e) = e6 (keep-highest lq= h) e
 keep-unlinked ln= lq= next= tail= o (e7 h) = e7 (λ j i. rw (lq= j i) (h j i))
 keep-unlinked ln= lq= next= tail= o (e8 h e) = e8 (λ j i. rw (lq= j i) (h j i)) (e ∙ sym tail=)
 keep-unlinked ln= lq= next= tail= o (e9 h e) = e9 (λ j i. rw (lq= j i) (h j i)) (e ∙ sym tail=)
-keep-unlinked ln= lq= next= tail= o (e13 s a h) = e13 s (rw (sym tail=) at a) h
-keep-unlinked ln= lq= next= tail= o (e14 {g = g} s a h e) = e14 s (rw (sym tail=) at a) h (lq= (g .m) h ∙ e)
-keep-unlinked ln= lq= next= tail= o (e15 s a) = e15 s (rw (sym tail=) at a)
-keep-unlinked ln= lq= next= tail= o (e16 s a m c) = e16 s (rw (sym tail=) at a) m c
-keep-unlinked ln= lq= next= tail= o (e17 s a) = e17 s (rw (sym tail=) at a)
-keep-unlinked ln= lq= next= tail= o (e18 {g = g} s a e) = e18 s (rw (sym tail=) at a) (e ∙ sym (next= (g .p) (aim-first o a)))
+keep-unlinked ln= lq= next= tail= o (e13 s a h) = e13 s a h
+keep-unlinked ln= lq= next= tail= o (e14 {g = g} s a h e) = e14 s a h (lq= (g .m) h ∙ e)
+keep-unlinked ln= lq= next= tail= o (e15 s a) = e15 s a
+keep-unlinked ln= lq= next= tail= o (e16 s a m c) = e16 s a m c
+keep-unlinked ln= lq= next= tail= o (e17 s a) = e17 s a
+keep-unlinked ln= lq= next= tail= o (e18 {g = g} s a e) = e18 s a (e ∙ sym (next= (g .p) (aim-first o a)))
 keep-unlinked ln= lq= next= tail= o (e21 s e z h) = e21 s e z h
 keep-unlinked ln= lq= next= tail= o (e22 s e z h r) = e22 s e z h r
 
@@ -130,7 +129,7 @@ module _ {top q : ℕ} (v v′ : View) (fr fr′ : ℕ → Frame) (l : ℕ) (Z :
   keep-here {j} h o sub tail= (is-owner {x = x} z e t u) =
     let tl = tail= (inr (λ (c : j ≡ top). omega arith)) in
     let nx : (y : ℕ) → 0 < cnt y x → v′ .next y ≡ v .next y = λ y m. next= y (omega (arith, simp counts at (sub y))) in
-    is-owner (lq= j h ∙ z) (ln= j h ∙ e) (keep-hot nx tl t) (keep-unlinked (λ k (i : k < j). ln= k (omega arith)) (λ k (i : k < j). lq= k (omega arith)) nx tl t u)
+    is-owner (lq= j h ∙ z) (ln= j h ∙ e) (rw (sym tl) at (keep-hot nx t)) (rw (sym tl) at (keep-unlinked (λ k (i : k < j). ln= k (omega arith)) (λ k (i : k < j). lq= k (omega arith)) nx refl t u))
   keep-here {j} h o sub tail= (is-mark {s = s} {w = w} z e t) =
     is-mark (lq= j h ∙ z) (ln= j h ∙ e) (keep-linked (λ y (m : 0 < cnt y (s ∷ w)). next= y (omega (arith, simp counts at (sub y), simp counts at m))) (λ r. tail= (inr r)) t)
 

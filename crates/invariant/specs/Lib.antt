@@ -1,3 +1,4 @@
 pub mod Ghost
 pub mod Facts
 pub mod Keep
+pub mod Below
