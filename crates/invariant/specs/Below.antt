@@ -3,7 +3,7 @@ use Prim.Native.Nat.{ℕ, zero, suc, _+_, _≤_, _<_}
 use mathlib.Core.Path.{_≡_, refl, sym, ap, _∙_}
 use mathlib.Core.Logic.{_≢_, _⊎_, inl, inr}
 use mathlib.Core.Bool.{Bool, true, false}
-use mathlib.Core.List.{List, [], _∷_, _++_}
+use mathlib.Core.List.{List, [], _∷_, _++_, append-nil}
 use native.Mathlib.Omega.{arith}
 use Rattle.words.specs.declared.Frame.{Frame}
 use lib.Dec.{eqb}
@@ -246,3 +246,23 @@ none-leaving (upon {l = l} a o e (is-loose {st = st} z t) d) h = rw (goes-out t 
 none-leaving (upon a o e (is-done z i t) d) h = none-leaving d (λ j k. h j (omega arith))
 none-leaving (upon a o e (is-owner z i t u) d) h = none-leaving d (λ j k. h j (omega arith))
 none-leaving (upon a o e (is-mark z i t) d) h = none-leaving d (λ j k. h j (omega arith))
+
+-- ---- a level whose work is done is taken off the queue by a higher one
+
+-- the same facts with other words of the levels' queues
+abbrev pub with-lq : View → (ℕ → ℕ) → View
+with-lq v lq = record { ln = v .ln; lq = lq; next = v .next; head = v .head; tail = v .tail; settled = v .settled }
+
+pub taken-off : {top q n k : ℕ} {v : View} {fr : ℕ → Frame} {st : Stack} → n ≤ top → 1 ≤ q → Pile top q v fr n st true → Highest (v .lq) q k n → Listed k st
+    → Pile top q (with-lq v (put (v .lq) k 0)) fr n st false
+taken-off {q = q} {k = k} {v = v} c q≥ (upon {l = l} a o e (is-loose {st = st} z t) d) h s =
+  let s′ = highest-lower st z h s in
+  let other = put-other (v .lq) k 0 l (λ i. z (rw (sym i) at (h .registered))) in
+  upon′ a o e (is-loose (rw other z) t) (taken-off (omega arith) q≥ d (lower-highest (listed-below d s′) a h) s′)
+taken-off {top} {q} {k = k} {v = v} {fr = fr} c q≥ (upon {l = l} a o e (is-done {st = st} z i t) d) h s =
+  let k= = highest-top a z h d s in
+  let off : put (v .lq) k 0 l ≢ q = rw (sym k=) (rw (put-same (v .lq) k 0) (omega arith)) in
+  upon′ a o e (is-loose off e28-off)
+    (keep v (with-lq v (put (v .lq) k 0)) fr fr l (lists st ++ flight st) (omega arith) (λ j m. refl) (λ j m. refl)
+      (λ j m. put-other (v .lq) k 0 j (omega arith)) (λ y m. refl) (λ j m n. the-same refl [] (sym (append-nil (v .settled))) (λ y r. refl))
+      (omega arith) (λ y. simp counts (omega arith)) (λ r. refl) d)

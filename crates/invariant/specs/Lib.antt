@@ -2,3 +2,5 @@ pub mod Ghost
 pub mod Facts
 pub mod Keep
 pub mod Below
+pub mod Turn
+pub mod Enter
