@@ -456,3 +456,8 @@ measured-put s t l f e =
     (kept (queuesAt (s .levels)) (omega arith))
     (kept (nodesAt (s .levels) (s .queues)) (omega arith))
     (kept (framesAt (s .levels) (s .queues) (s .nodes)) p)
+
+-- a node's next and use are words of the table together
+pub has-use : (s : Sizes) (n : Node) → has s (Next n) ≡ true → has s (Use n) ≡ true
+unfolding has
+has-use s n h = h

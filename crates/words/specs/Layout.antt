@@ -66,6 +66,17 @@ sizesOf t = record { levels = levelsOf t; queues = queuesOf t; nodes = nodesOf t
 abbrev pub levelsAgain : Sizes → List ℕ → ℕ
 levelsAgain s t = getD t (framesAt (s .levels) (s .queues) (s .nodes)) 0
 
+-- the table with these sizes for its counts
+unfoldable pub putCounts : Sizes → List ℕ → List ℕ
+putCounts s t =
+    set
+    (set
+    (set
+    (set t levelsAt (s .levels))
+    (queuesAt (s .levels)) (s .queues))
+    (nodesAt (s .levels) (s .queues)) (s .nodes))
+    (framesAt (s .levels) (s .queues) (s .nodes)) (s .levels)
+
 -- the counts are within their limits, the table is long enough, and the two L are the same
 unfoldable pub agrees : Sizes → List ℕ → Bool
 agrees s t = limits s && leb (words s) (length t) && eqb (levelsAgain s t) (s .levels)

@@ -9,6 +9,7 @@ ghost use Rattle.words.specs.Layout.{
   sizesOf,
   agrees,
   measured,
+  putCounts,
   words,
   has,
   addr,
@@ -179,6 +180,17 @@ pub fn measure(t: &[u16]) -> Measured
     } else {
         Measured::Unfit
     }
+}
+
+// Writes the counts.
+pub fn put_counts(t: &mut [u16], s: Sizes)
+    requires { ⌜ Fits s (now t) ⌝ }
+    ensures { λ _. ⌜ now (t .exit) ≡ putCounts s (now (t .entry)) ⌝ }
+{
+    t[0] = s.levels as u16;
+    t[1 + 2 * s.levels] = s.queues as u16;
+    t[2 + 2 * s.levels + 2 * s.queues] = s.nodes as u16;
+    t[3 + 2 * s.levels + 2 * s.queues + 2 * s.nodes] = s.levels as u16;
 }
 
 pub fn has_word(s: Sizes, w: Word) -> bool

@@ -1,0 +1,45 @@
+-- An answer says one thing only: two answers that say the same are the same. A contract is one equation between what the
+-- definition gives and what is said, with every lent word afterwards; so two results that it allows coincide.
+use mathlib.Core.Path.{_≡_, sym, _∙_, ap}
+use Rattle.answers.specs.declared.Done.{Done}
+use Rattle.answers.specs.declared.Done.the-variants as done
+use Rattle.answers.specs.declared.Stepped.{Stepped}
+use Rattle.answers.specs.declared.Stepped.the-variants as stepped
+use Rattle.answers.specs.declared.Ran.{Ran}
+use Rattle.answers.specs.declared.Ran.the-variants as ran
+use Rattle.answers.specs.declared.Quiet.{Quiet}
+use Rattle.answers.specs.declared.Quiet.the-variants as quiet
+use Rattle.answers.specs.declared.Counted.{Counted}
+use Rattle.answers.specs.declared.Counted.the-variants as counted
+use Rattle.answers.specs.Said.{Said, doneSays, stepSays, runSays, quietSays, countSays}
+
+-- whatever the answers are and whatever is lent
+pub once : {A S B : Type 0} (say : A → Said S) → ((a b : A) → say a ≡ say b → a ≡ b) → {x : Said S × B} {a b : A} {t u : B}
+    → x ≡ (say a, t) → x ≡ (say b, u) → (a ≡ b) × (t ≡ u)
+once say one {a = a} {b = b} p q =
+    let e = sym p ∙ q in (one a b (ap (λ y. y .0) e), ap (λ y. y .1) e)
+
+pub one-done : (a b : Done) → doneSays a ≡ doneSays b → a ≡ b
+one-done done.Yes = elim [ done.Yes ↦ λ e. cc | done.Refused y ↦ λ e. cc ]
+one-done (done.Refused x) = elim [ done.Yes ↦ λ e. cc | done.Refused y ↦ λ e. cc ]
+
+pub one-step : (a b : Stepped) → stepSays a ≡ stepSays b → a ≡ b
+one-step stepped.GoingOn = elim [ stepped.GoingOn ↦ λ e. cc | stepped.Ended y ↦ λ e. cc | stepped.Refused y ↦ λ e. cc ]
+one-step (stepped.Ended x) = elim [ stepped.GoingOn ↦ λ e. cc | stepped.Ended y ↦ λ e. cc | stepped.Refused y ↦ λ e. cc ]
+one-step (stepped.Refused x) = elim [ stepped.GoingOn ↦ λ e. cc | stepped.Ended y ↦ λ e. cc | stepped.Refused y ↦ λ e. cc ]
+
+pub one-run : (a b : Ran) → runSays a ≡ runSays b → a ≡ b
+one-run (ran.Ended x x′) = elim [ ran.Ended y y′ ↦ λ e. cc | ran.Spent y ↦ λ e. cc | ran.Idle y ↦ λ e. cc | ran.Damaged y ↦ λ e. cc | ran.Refused y ↦ λ e. cc ]
+one-run (ran.Spent x) = elim [ ran.Ended y y′ ↦ λ e. cc | ran.Spent y ↦ λ e. cc | ran.Idle y ↦ λ e. cc | ran.Damaged y ↦ λ e. cc | ran.Refused y ↦ λ e. cc ]
+one-run (ran.Idle x) = elim [ ran.Ended y y′ ↦ λ e. cc | ran.Spent y ↦ λ e. cc | ran.Idle y ↦ λ e. cc | ran.Damaged y ↦ λ e. cc | ran.Refused y ↦ λ e. cc ]
+one-run (ran.Damaged x) = elim [ ran.Ended y y′ ↦ λ e. cc | ran.Spent y ↦ λ e. cc | ran.Idle y ↦ λ e. cc | ran.Damaged y ↦ λ e. cc | ran.Refused y ↦ λ e. cc ]
+one-run (ran.Refused x) = elim [ ran.Ended y y′ ↦ λ e. cc | ran.Spent y ↦ λ e. cc | ran.Idle y ↦ λ e. cc | ran.Damaged y ↦ λ e. cc | ran.Refused y ↦ λ e. cc ]
+
+pub one-quiet : (a b : Quiet) → quietSays a ≡ quietSays b → a ≡ b
+one-quiet quiet.Yes = elim [ quiet.Yes ↦ λ e. cc | quiet.No ↦ λ e. cc | quiet.Refused y ↦ λ e. cc ]
+one-quiet quiet.No = elim [ quiet.Yes ↦ λ e. cc | quiet.No ↦ λ e. cc | quiet.Refused y ↦ λ e. cc ]
+one-quiet (quiet.Refused x) = elim [ quiet.Yes ↦ λ e. cc | quiet.No ↦ λ e. cc | quiet.Refused y ↦ λ e. cc ]
+
+pub one-count : (a b : Counted) → countSays a ≡ countSays b → a ≡ b
+one-count (counted.Are x) = elim [ counted.Are y ↦ λ e. cc | counted.Refused y ↦ λ e. cc ]
+one-count (counted.Refused x) = elim [ counted.Are y ↦ λ e. cc | counted.Refused y ↦ λ e. cc ]

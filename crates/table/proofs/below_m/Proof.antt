@@ -1,0 +1,18 @@
+use borrow.Author.Tests.{eq-eqb, ne-eqb}
+use Rattle.table.specs.Frames.{belowMTo, ifEq}
+use borrow.Author.Needs.{needs}
+use Rattle.table.proofs.below_m.Statement.{statement}
+use Rattle.table.proofs.below_m.Tie as tie
+
+returns : tie.Need-returns
+unfolding belowMTo ifEq
+returns c = simp ((c .go .ensures), eq-eqb _ _ (c .before .if1 .taken))
+
+returns-2 : tie.Need-returns-2
+unfolding belowMTo ifEq
+returns-2 c = simp ((c .go2 .ensures), (c .before .with-m .ensures), ne-eqb _ _ (c .before .before .if1 .left))
+
+pub below-m-spec : {M : Type 1} → statement M
+below-m-spec =
+    tie.close
+    (tie.spec (λ c κs. search needs) (λ c. search needs) (λ c κs. search needs) (λ c κs. search needs) returns returns-2)

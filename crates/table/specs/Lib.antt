@@ -1,0 +1,4 @@
+pub mod Points
+pub mod Frames
+pub mod Table
+pub mod Laws
