@@ -24,6 +24,7 @@ place c (y ∷ ys) h = by (eqb c y) (same? c y) (rw cnt-cons at h) (place c ys)
   where
     push : Place c ys → Place c (y ∷ ys)
     push r = record { pre = y ∷ r .pre; post = r .post; whole = ap (λ t. y ∷ t) (r .whole) }
+
     by : (b : Bool) → Same c y b → 0 < hit b + cnt c ys → (0 < cnt c ys → Place c ys) → Place c (y ∷ ys)
     by true (same e) k ih = record { pre = []; post = ys; whole = rw e }
     by false (apart e) k ih = push (ih (omega arith))
