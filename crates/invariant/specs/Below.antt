@@ -14,7 +14,7 @@ use Rattle.chains.specs.Member.{either, differ}
 use Rattle.chains.specs.Seg.{Seg, seg-head, Walk, on, out, walk, stop, link}
 use Rattle.invariant.specs.Ghost.{Item, loose, owner, mark, Stack, floor, push, lists, flight, leaving, follow, origin, start, Listed}
 use Rattle.invariant.specs.Facts.{Regs, regs, View, Hot, Loose, d7, e1, e2, e28-off, e29, d1, d2, d3, d4, d5, d6, Free, Highest, Unlinked, Cut, Linked, e10, e11, e12, e19, e20, e23, e24, e25, e26, e27, e28,
-  Here, is-loose, is-done, is-owner, is-mark, On, Pile, bottom, upon}
+  Here, is-loose, is-done, is-owner, is-mark, Works, Pile, bottom, upon}
 use Rattle.invariant.specs.Keep.{upon′, keep, Fetches, the-same}
 
 -- ---- levels
@@ -23,7 +23,7 @@ pub listed-below : {top q n j : ℕ} {v : View} {fr : ℕ → Frame} {st : Stack
 listed-below (upon a o e t d) (inl h) = omega arith
 listed-below (upon a o e t d) (inr h) = omega (arith, listed-below d h)
 
-pub listed-on : {top q n : ℕ} {v : View} {fr : ℕ → Frame} {st : Stack} {b : Bool} (j : ℕ) → Pile top q v fr n st b → Listed j st → On q (fr j)
+pub listed-on : {top q n : ℕ} {v : View} {fr : ℕ → Frame} {st : Stack} {b : Bool} (j : ℕ) → Pile top q v fr n st b → Listed j st → Works q (fr j)
 listed-on j (upon a o e t d) (inl h) = rw h o
 listed-on j (upon a o e t d) (inr h) = listed-on j d h
 
@@ -240,7 +240,7 @@ goes-out (d6 a b) h = refl
 goes-out (d7 a b) h = absurd (h a)
 
 -- with no dequeue on the stack, no node is going out
-pub none-leaving : {top q n : ℕ} {v : View} {fr : ℕ → Frame} {st : Stack} {b : Bool} → Pile top q v fr n st b → ((j : ℕ) → j < n → On q (fr j) → fr j .op ≢ 2) → leaving st ≡ []
+pub none-leaving : {top q n : ℕ} {v : View} {fr : ℕ → Frame} {st : Stack} {b : Bool} → Pile top q v fr n st b → ((j : ℕ) → j < n → Works q (fr j) → fr j .op ≢ 2) → leaving st ≡ []
 none-leaving bottom h = refl
 none-leaving (upon {l = l} a o e (is-loose {st = st} z t) d) h = rw (goes-out t (h l a o)) (none-leaving d (λ j k. h j (omega arith)))
 none-leaving (upon a o e (is-done z i t) d) h = none-leaving d (λ j k. h j (omega arith))

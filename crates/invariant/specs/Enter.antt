@@ -14,7 +14,7 @@ use Rattle.table.specs.Frames.{belowKTo, belowMTo}
 use Rattle.table.specs.Table.{row}
 use Rattle.chains.specs.Seg.{Seg, stop, link}
 use Rattle.invariant.specs.Ghost.{Item, loose, owner, mark, Stack, push, lists, flight, follow, origin, start, Listed}
-use Rattle.invariant.specs.Facts.{Regs, regs, View, Hot, e1, e2, Free, Highest, Aim, behind, before, NotPast, Unlinked, e3, e4, e5, e6, e7, e13, e15, Here, is-loose, is-owner, On, Pile}
+use Rattle.invariant.specs.Facts.{Regs, regs, View, Hot, e1, e2, Free, Highest, Aim, behind, before, NotPast, Unlinked, e3, e4, e5, e6, e7, e13, e15, Here, is-loose, is-owner, Works, Pile}
 use Rattle.invariant.specs.Below.{hot-start, Shown, at-owner, at-mark, at-done, shown, taken-off}
 use Rattle.words.specs.Layout.{level}
 use Rattle.state.specs.Step.{memAfter, then}
@@ -37,12 +37,12 @@ module _ (T : Turn) where
 
   pub e1-ok : Case T E1
   unfolding row
-  e1-ok S x _ b _ (is-loose z (e1 h)) d s =
+  e1-ok at S x _ b _ (is-loose z (e1 h)) d s =
     to T E2 (loose (f .node .0 ∷ []) []) refl refl refl (is-loose z (e2 h (put-same (M .ln) l (f .node .0)))) (below-ln T d (f .node .0)) s
 
   pub e2-ok : Case T E2
   unfolding row belowKTo
-  e2-ok S x _ b _ (is-loose z (e2 h n)) d s = by-eq T
+  e2-ok at S x _ b _ (is-loose z (e2 h n)) d s = by-eq T
       (λ e. to T E7 (owner (f .node .0) x) refl refl refl (is-owner lq= n (s .hot) (e7 (λ j m. absurd (omega arith)))) (below-lq T d (f .queue .0)) alone)
       (λ e. to T E3 (owner (f .node .0) x) refl refl refl (is-owner lq= n (s .hot) (e3 (omega arith) (λ j a c. absurd (omega arith)))) (below-lq T d (f .queue .0)) alone)
     where
@@ -54,7 +54,7 @@ module _ (T : Turn) where
 
   pub e3-ok : Case T E3
   unfolding row belowKTo
-  e3-ok S x _ b _ (is-owner z n t (e3 k h)) d s = by-eq T
+  e3-ok at S x _ b _ (is-owner z n t (e3 k h)) d s = by-eq T
     (λ e. to T E4 (owner (f .node .0) _) refl refl refl (is-owner z n t (e4 (record { below = k; registered = e ∙ T .here .queued; free = h }))) d s)
     (λ e. let off : M .lq (f .k .0) ≢ q = rw (T .here .queued) at e in by-eq T
       (λ i. to T E7 (owner (f .node .0) _) refl refl refl (is-owner z n t (e7 (λ j m. free-down off h j (omega arith) m))) d s)
@@ -62,11 +62,11 @@ module _ (T : Turn) where
 
   pub e4-ok : Case T E4
   unfolding row
-  e4-ok S x _ b _ (is-owner z n t (e4 h)) d s = to T E5 (owner (f .node .0) _) refl refl refl (is-owner z n t (e5 h refl)) d s
+  e4-ok at S x _ b _ (is-owner z n t (e4 h)) d s = to T E5 (owner (f .node .0) _) refl refl refl (is-owner z n t (e5 h refl)) d s
 
   pub e5-ok : Case T E5
   unfolding row belowMTo
-  e5-ok S x _ b _ (is-owner {x = y} z n t (e5 h e)) d s =
+  e5-ok at S x _ b _ (is-owner {x = y} z n t (e5 h e)) d s =
       by b d (shown y (omega (arith, T .below)) d h (T .listed (f .k .0) (h .below) (h .registered)) (hot-start t) (λ w. omega (arith, simp counts at (s .all w), T .once w)) (omega (arith, simp counts at (s .all 0), T .none)))
     where
       k : ℕ
@@ -95,7 +95,7 @@ module _ (T : Turn) where
 
   pub e6-ok : Case T E6
   unfolding row belowKTo
-  e6-ok S x _ b _ (is-owner {x = y} z n t (e6 h e)) d s =
+  e6-ok at S x _ b _ (is-owner {x = y} z n t (e6 h e)) d s =
       let d′ = taken-off (omega (arith, T .below)) (T .queued) (rw e at d) h (T .listed (f .k .0) (h .below) (h .registered)) in
       by-eq T
         (λ i. to T E7 (owner (f .node .0) y) refl refl refl (is-owner lq= n t (e7 (λ j m. free-put (M .lq) (T .queued) (h .free) j (omega arith) m))) d′ s)

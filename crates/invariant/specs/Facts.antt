@@ -148,7 +148,7 @@ module _ (top q : ℕ) (v : View) where
       → v .lq l ≡ q → v .ln l ≡ s → Linked top (v .next) (v .tail) (origin top st) (follow st) s w p g → Here l p g (mark s w) st false false
 
 -- a frame on the queue
-pub record On (q : ℕ) (f : Frame) : Type 0 where
+pub record Works (q : ℕ) (f : Frame) : Type 0 where
   pub busy : 1 ≤ f .op
   pub known : f .op ≤ 2
   pub queued : f .queue .0 ≡ q
@@ -157,4 +157,4 @@ pub record On (q : ℕ) (f : Frame) : Type 0 where
 pub data Pile (top q : ℕ) (v : View) (fr : ℕ → Frame) : ℕ → Stack → Bool → Type 0 where
   bottom : {n : ℕ} → Pile top q v fr n floor false
   upon : {n l : ℕ} {p : Point} {i : Item} {st : Stack} {b b′ : Bool}
-    → l < n → On q (fr l) → pointOf (fr l .point) ≡ p → Here top q v l p (regs (fr l)) i st b b′ → Pile top q v fr l st b → Pile top q v fr n (push l i st) b′
+    → l < n → Works q (fr l) → pointOf (fr l .point) ≡ p → Here top q v l p (regs (fr l)) i st b b′ → Pile top q v fr l st b → Pile top q v fr n (push l i st) b′

@@ -13,11 +13,11 @@ use Rattle.chains.specs.Seg.{Seg, seg-same}
 use Rattle.invariant.specs.Ghost.{Item, loose, owner, mark, Stack, floor, push, lists, flight, follow, origin, start}
 use Rattle.invariant.specs.Facts.{Regs, regs, View, Hot, Loose, e1, e2, e28-off, e29, d1, d2, d3, d4, d5, d6, d7, Free, Highest, Aim, behind, before, NotPast, Walking,
   Unlinked, e3, e4, e5, e6, e7, e8, e9, e13, e14, e15, e16, e17, e18, e21, e22, Cut, Linked, e10, e11, e12, e19, e20, e23, e24, e25, e26, e27, e28,
-  Here, is-loose, is-done, is-owner, is-mark, On, Pile, bottom, upon}
+  Here, is-loose, is-done, is-owner, is-mark, Works, Pile, bottom, upon}
 
 -- a function reads the goal before its arguments, a constructor does not
 pub upon′ : {top q : ℕ} {v : View} {fr : ℕ → Frame} {n l : ℕ} {p : Point} {i : Item} {st : Stack} {b b′ : Bool}
-    → l < n → On q (fr l) → pointOf (fr l .point) ≡ p → Here top q v l p (regs (fr l)) i st b b′ → Pile top q v fr l st b → Pile top q v fr n (push l i st) b′
+    → l < n → Works q (fr l) → pointOf (fr l .point) ≡ p → Here top q v l p (regs (fr l)) i st b b′ → Pile top q v fr l st b → Pile top q v fr n (push l i st) b′
 upon′ a b c d e = upon a b c d e
 
 -- ---- a frame that is not registered
@@ -119,8 +119,8 @@ below-tail h (is-mark z e t) (inl r) = let c : _≡_ {A = ℕ} 0 1 = cc in absur
 module _ {top q : ℕ} (v v′ : View) (fr fr′ : ℕ → Frame) (l : ℕ) (Z : List ℕ) (l≤ : l ≤ top)
     (fr= : (j : ℕ) → j < l → fr′ j ≡ fr j) (ln= : (j : ℕ) → j < l → v′ .ln j ≡ v .ln j) (lq= : (j : ℕ) → j < l → v′ .lq j ≡ v .lq j)
     (next= : (y : ℕ) → 0 < cnt y Z → v′ .next y ≡ v .next y)
-    (fetches : (j : ℕ) → j < l → On q (fr j) → Fetches (fr j .op) (v .next) (v′ .next) (v .head) (v′ .head) (v .settled) (v′ .settled)) where
-  keep-here : {j : ℕ} {p : Point} {i : Item} {st : Stack} {b b′ : Bool} → j < l → On q (fr j)
+    (fetches : (j : ℕ) → j < l → Works q (fr j) → Fetches (fr j .op) (v .next) (v′ .next) (v .head) (v′ .head) (v .settled) (v′ .settled)) where
+  keep-here : {j : ℕ} {p : Point} {i : Item} {st : Stack} {b b′ : Bool} → j < l → Works q (fr j)
       → ((y : ℕ) → cnt y (lists (push j i st)) + cnt y (flight (push j i st)) ≤ cnt y Z) → ((b′ ≡ true) ⊎ (origin top (push j i st) ≢ top) → v′ .tail ≡ v .tail)
       → Here top q v j p (regs (fr j)) i st b b′ → Here top q v′ j p (regs (fr j)) i st b b′
   keep-here {j} h o sub tail= (is-loose {ins = ins} {outs = outs} z t) =

@@ -4,3 +4,5 @@ pub mod Keep
 pub mod Below
 pub mod Turn
 pub mod Enter
+pub mod Rules
+pub mod Append

@@ -15,13 +15,14 @@ use Rattle.words.specs.declared.Word.the-variants.{LevelNode, LevelQueue, Next}
 use Rattle.state.specs.Mem.{Mem, put, put-same, put-other, upd}
 use Rattle.state.specs.Step.{memAfter, then}
 use Rattle.table.specs.Points.{Point, numberOf, pointOf}
+use Rattle.table.specs.Laws.{point-is}
 use Rattle.table.specs.Frames.{ifEq}
 use Rattle.table.specs.Table.{row}
 use Rattle.table.specs.declared.After.{After}
 use Rattle.table.specs.declared.After.the-variants.{Go, Done}
 use Rattle.chains.specs.Seg.{Seg}
 use Rattle.invariant.specs.Ghost.{Item, loose, owner, mark, Stack, floor, push, lists, flight, leaving, follow, origin, start, Listed}
-use Rattle.invariant.specs.Facts.{Regs, regs, View, Hot, Here, On, Pile}
+use Rattle.invariant.specs.Facts.{Regs, regs, View, Hot, Here, Works, Pile}
 use Rattle.invariant.specs.Keep.{keep, Fetches, the-same}
 
 -- what queue q's facts read in a memory
@@ -52,11 +53,11 @@ pub record Turn : Type 0 where
   pub f : Frame
   pub queued : 1 ≤ q
   pub below : l < top
-  pub here : On q f
+  pub here : Works q f
   pub once : (y : ℕ) → own y ≤ 1
   pub none : own 0 ≡ 0
   pub listed : (j : ℕ) → j < l → M .lq j ≡ q → Listed j st
-  pub alone : f .op ≡ 2 → (j : ℕ) → j < l → On q (fr j) → fr j .op ≢ 2
+  pub alone : f .op ≡ 2 → (j : ℕ) → j < l → Works q (fr j) → fr j .op ≢ 2
 
 -- what an ended operation hands out: a dequeue its node, if it has one
 pub data Handed (op n : ℕ) : List ℕ → Type 0 where
@@ -69,7 +70,7 @@ module _ (T : Turn) where
   -- the step leaves memory M′ and what follows; own′ counts the queue's nodes then, and front was frozen before
   pub data Ok (own′ : ℕ → ℕ) (front : List ℕ) (M′ : Mem) : After → Type 0 where
     goes-on : {f′ : Frame} {p : Point} {S x : List ℕ} {i : Item} {b b′ : Bool}
-      → f′ .point ≡ numberOf p → f′ .op ≡ f .op → f′ .queue .0 ≡ f .queue .0
+      → pointOf (f′ .point) ≡ p → f′ .op ≡ f .op → f′ .queue .0 ≡ f .queue .0
       → Here top q (view q M′ S) l p (regs f′) i st b b′ → Pile top q (view q M′ S) fr l st b → StandIn top q own′ M′ S x (push l i st)
       → Beginning front (frontOf q M′ S (push l i st)) → Ok own′ front M′ (Go f′)
     has-ended : {n : Node} {out S x : List ℕ} {b : Bool}
@@ -86,14 +87,19 @@ module _ (T : Turn) where
 
   -- a step at point p: from each ghost state that fits the frame to one that fits what the step leaves
   abbrev pub Case : Point → Type 0
-  Case p = (S x : List ℕ) (i : Item) (b b′ : Bool) → Here top q (view q M S) l p (regs f) i st b b′ → Pile top q (view q M S) fr l st b → StandIn top q (T .own) M S x (push l i st)
+  Case p = pointOf (f .point) ≡ p → (S x : List ℕ) (i : Item) (b b′ : Bool) → Here top q (view q M S) l p (regs f) i st b b′ → Pile top q (view q M S) fr l st b → StandIn top q (T .own) M S x (push l i st)
       → Ok (T .own) (frontOf q M S (push l i st)) (memAfter M (row p f (level l) (level top))) (then M (row p f (level l) (level top)) f)
 
-  -- the front stands still
+  -- to point p, and the front stands still
+  pub stay : {f′ : Frame} {S x : List ℕ} {b b′ : Bool} {own′ : ℕ → ℕ} {M′ : Mem} (p : Point) (i : Item) → pointOf (f′ .point) ≡ p → f′ .op ≡ f .op → f′ .queue .0 ≡ f .queue .0
+      → Here top q (view q M′ S) l p (regs f′) i st b b′ → Pile top q (view q M′ S) fr l st b → StandIn top q own′ M′ S x (push l i st)
+      → Ok own′ (frontOf q M′ S (push l i st)) M′ (Go f′)
+  stay p i a b c d e s = goes-on a b c d e s (begins-same _)
+
   pub to : {f′ : Frame} {S x : List ℕ} {b b′ : Bool} {own′ : ℕ → ℕ} {M′ : Mem} (p : Point) (i : Item) → f′ .point ≡ numberOf p → f′ .op ≡ f .op → f′ .queue .0 ≡ f .queue .0
       → Here top q (view q M′ S) l p (regs f′) i st b b′ → Pile top q (view q M′ S) fr l st b → StandIn top q own′ M′ S x (push l i st)
       → Ok own′ (frontOf q M′ S (push l i st)) M′ (Go f′)
-  to p i a b c d e s = goes-on a b c d e s (begins-same _)
+  to {f′} p i a b c d e s = stay p i (point-is p (f′ .point) a) b c d e s
 
   -- what lies below stands still: one law for each kind of store
   module _ {S : List ℕ} {b : Bool} (d : Pile top q (view q M S) fr l st b) where
