@@ -15,12 +15,12 @@ use Rattle.table.specs.Laws.{point-is}
 use Rattle.table.specs.Frames.{walkTo}
 use Rattle.table.specs.Table.{row}
 use Rattle.chains.specs.Member.{Last, differ}
-use Rattle.chains.specs.Seg.{Seg, stop, link, seg-put, seg-head, seg-rest, seg-nil, seg-turn-last, Walk, on, out, walk}
+use Rattle.chains.specs.Seg.{Seg, stop, link, seg-put, seg-head, seg-rest, seg-nil, seg-turn-last}
 use Rattle.invariant.specs.Ghost.{Item, loose, owner, mark, Stack, push, lists, flight, follow, origin, start}
 use Rattle.invariant.specs.Facts.{Regs, regs, View, Hot, Unlinked, e7, e8, e9, Linked, e10, e11, e12, Here, is-owner, is-mark, is-done, Works, Pile}
 use Rattle.invariant.specs.Below.{hot-start, Nobody, nobody}
 use Rattle.invariant.specs.Turn.{view, Stand, frontOf, Turn, Ok, goes-on, by-eq, Case, stay, to, below-ln}
-use Rattle.invariant.specs.Rules.{Hung, hang, move-on, settle}
+use Rattle.invariant.specs.Rules.{along, hang, move-on, settle}
 
 -- the queue's own chain with no mark in it: tail alone, and its link ends
 record Bare (next : ℕ → ℕ) (tail : ℕ) (x : List ℕ) : Type 0 where
@@ -55,13 +55,9 @@ module _ (T : Turn) where
       (is-mark z n (e10 (r .own) (r .ends) (rw (r .ends, append-nil (s .hot .more)) (k .ends)) (cnt-self (f .node .0) (s .hot .more ++ [])))) (rw (r .unsettled) at (k .pile)) (k .stand)
 
   pub e10-ok : Case T E10
-  unfolding row walkTo
-  e10-ok at S x _ b _ (is-mark {s = p} {w = w} z n (e10 a e g h)) d s = by (walk (f .c .0) g h)
-    where
-      by : Walk (M .next) (f .c .0) (follow st) (p ∷ w) w → Ok T own (frontOf q M S (push l (mark p w) st)) (memAfter M (row E10 f (level l) (level top))) (then M (row E10 f (level l) (level top)) f)
-      by (on k) = by-eq T (λ i. absurd (omega (arith, simp (i, counts) at k, simp counts at (s .all 0), T .none)))
-        (λ i. stay T E10 (mark p w) at refl refl (is-mark z n (e10 a e g (simp counts (omega arith)))) d s)
-      by (out i k) = by-eq T (λ j. to T E11 (mark p w) refl refl refl (is-mark z n (e11 a e g k)) d s) (λ j. absurd (j (i ∙ e)))
+  unfolding row
+  e10-ok at S x _ b _ (is-mark {s = p} {w = w} z n (e10 a e g h)) d s = along T 11 g e (omega (arith, simp counts at (s .all 0), T .none)) h
+    (λ k. to T E11 (mark p w) refl refl refl (is-mark z n (e11 a e g k)) d s) (λ k. stay T E10 (mark p w) at refl refl (is-mark z n (e10 a e g k)) d s)
 
   pub e11-ok : Case T E11
   unfolding row

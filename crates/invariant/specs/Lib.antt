@@ -6,3 +6,4 @@ pub mod Turn
 pub mod Enter
 pub mod Rules
 pub mod Append
+pub mod Insert

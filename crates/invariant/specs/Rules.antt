@@ -13,12 +13,14 @@ use Rattle.lists.specs.Count.{cnt, cnt-append, cnt-cons, cnt-nil, eqb-self, cnt
 use Rattle.lists.specs.Beginning.{Beginning, without, without-append, begins-more}
 use Rattle.state.specs.Mem.{Mem, put, put-same, put-other, upd}
 use Rattle.chains.specs.Member.{Last, differ}
-use Rattle.chains.specs.Seg.{Seg, stop, link, seg-put, seg-split, seg-join, seg-head, seg-rest, seg-turn-last}
+use Rattle.chains.specs.Seg.{Seg, stop, link, seg-put, seg-split, seg-join, seg-head, seg-rest, seg-turn-last, Walk, on, out, walk}
+use Rattle.table.specs.Frames.{ifEq, goTo, setC, walkTo}
+use Rattle.table.specs.declared.After.the-variants.{Go}
 use Rattle.invariant.specs.Ghost.{Item, loose, owner, mark, Stack, push, lists, flight, leaving, follow, origin, start}
 use Rattle.invariant.specs.Facts.{Regs, regs, View, Hot, Cut, Pile}
 use Rattle.invariant.specs.Keep.{keep, the-same}
 use Rattle.invariant.specs.Below.{hot-start, start-own}
-use Rattle.invariant.specs.Turn.{view, Stand, StandIn, frontOf, Turn, below-next}
+use Rattle.invariant.specs.Turn.{view, Stand, StandIn, frontOf, Turn, Ok, by-eq, below-next}
 
 -- a list cut behind c still begins as it did
 begins-cut : (s c : ℕ) (pre rest more : List ℕ) → pre ++ c ∷ rest ≡ s ∷ more → (m : List ℕ) × (pre ++ c ∷ [] ≡ s ∷ m)
@@ -27,6 +29,17 @@ begins-cut s c (y ∷ pre) rest more e = (pre ++ c ∷ [], ap (λ z. z ∷ (pre 
 
 module _ (T : Turn) where
   open Turn T using (top, q, own, fr, l, st, M, f)
+
+  -- a walk along p ∷ w, at the end of which stands 0: c is its last node, or goes on to a later one
+  pub along : {own′ : ℕ → ℕ} {front w : List ℕ} {p t : ℕ} (x : ℕ) → Seg (M .next) p (p ∷ w) t → t ≡ 0 → cnt 0 w ≡ 0 → 0 < cnt (f .c .0) (p ∷ w)
+      → (Last (f .c .0) (p ∷ w) → Ok T own′ front M (goTo x f)) → (0 < cnt (M .next (f .c .0)) (p ∷ w) → Ok T own′ front M (Go (setC (M .next (f .c .0)) f)))
+      → Ok T own′ front M (walkTo x (M .next (f .c .0)) f)
+  unfolding walkTo
+  along {own′} {front} {w} {p} {t} x g e z h end step = by (walk (f .c .0) g h)
+    where
+      by : Walk (M .next) (f .c .0) t (p ∷ w) w → Ok T own′ front M (ifEq (M .next (f .c .0)) 0 (goTo x f) (Go (setC (M .next (f .c .0)) f)))
+      by (on k) = by-eq T (λ i. absurd (let j : 0 < cnt 0 w = rw i at k in omega arith)) (λ i. step (simp counts (omega arith)))
+      by (out i k) = by-eq T (λ j. end k) (λ j. absurd (j (i ∙ e)))
 
   -- n's chain n ∷ w is hung behind c, a node of the hot list y below: what stood behind c joins the piece
   pub record Hung (S : List ℕ) (b : Bool) (n c : ℕ) (w pre rest : List ℕ) : Type 0 where
