@@ -7,3 +7,5 @@ pub mod Enter
 pub mod Rules
 pub mod Append
 pub mod Insert
+pub mod Leave
+pub mod Search

@@ -62,7 +62,7 @@ pub record Turn : Type 0 where
 -- what an ended operation hands out: a dequeue its node, if it has one
 pub data Handed (op n : ℕ) : List ℕ → Type 0 where
   nothing : (op ≡ 2 → n ≡ 0) → Handed op n []
-  node : op ≡ 2 → n ≢ 0 → Handed op n (n ∷ [])
+  handed : op ≡ 2 → n ≢ 0 → Handed op n (n ∷ [])
 
 module _ (T : Turn) where
   open Turn T using (top, q, fr, l, st, M, f)
