@@ -39,6 +39,14 @@ origin-below (upon a o e (is-done z i t) d) h = omega (arith, origin-below d h)
 origin-below (upon a o e (is-owner z i t u) d) h = a
 origin-below (upon a o e (is-mark z i t) d) h = omega (arith, origin-below d h)
 
+-- the owner of a chain is registered
+pub origin-registered : {top q n : ℕ} {v : View} {fr : ℕ → Frame} {st : Stack} {b : Bool} → Pile top q v fr n st b → origin top st ≢ top → v .lq (origin top st) ≡ q
+origin-registered bottom h = absurd (h refl)
+origin-registered (upon a o e (is-loose z t) d) h = origin-registered d h
+origin-registered (upon a o e (is-done z i t) d) h = origin-registered d h
+origin-registered (upon a o e (is-owner z i t u) d) h = z
+origin-registered (upon a o e (is-mark z i t) d) h = origin-registered d h
+
 -- ---- tail
 
 pub start-own : {top q n : ℕ} {v : View} {fr : ℕ → Frame} {st : Stack} {b : Bool} → n ≤ top → Pile top q v fr n st b → origin top st ≡ top → start (v .tail) st ≡ v .tail
