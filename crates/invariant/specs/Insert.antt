@@ -14,7 +14,7 @@ use Rattle.state.specs.Step.{memAfter, then}
 use Rattle.table.specs.Points.{Point, E17, E18, E19, E20, E21, E22, E23, E24, E25, E26, E27, E28}
 use Rattle.table.specs.Laws.{point-is}
 use Rattle.table.specs.Table.{row}
-use Rattle.chains.specs.Member.{Last, differ, Place, place}
+use Rattle.chains.specs.Member.{Last, last-in, differ, Place, place}
 use Rattle.chains.specs.Seg.{Seg, stop, link, seg-split, seg-nil, seg-rest}
 use Rattle.invariant.specs.Ghost.{Item, loose, owner, mark, Stack, push, lists, flight, follow, origin, start}
 use Rattle.invariant.specs.Facts.{Regs, regs, View, Hot, Aim, behind, before, Unlinked, e17, e18, e21, e22, Cut, Linked, e19, e20, e23, e24, e25, e26, e27, e28, Here, is-owner, is-mark, is-done, Works, Pile}
@@ -25,9 +25,6 @@ use Rattle.invariant.specs.Rules.{along, Hung, hang, close, move-on, set
 -- the last of a stretch points to what follows it
 last-next : {f : ℕ → ℕ} {s t : ℕ} {xs : List ℕ} (c : ℕ) → Last c xs → Seg f s xs t → f c ≡ t
 last-next c e g = seg-nil (seg-rest (seg-split (e .0) (rw (e .1) at g) .2))
-
-last-in : (c : ℕ) (xs : List ℕ) → Last c xs → 0 < cnt c xs
-last-in c xs e = rw (e .1) (simp counts (omega arith))
 
 module _ (T : Turn) where
   open Turn T using (top, q, own, fr, l, st, M, f)

@@ -9,3 +9,4 @@ pub mod Append
 pub mod Insert
 pub mod Leave
 pub mod Search
+pub mod Words

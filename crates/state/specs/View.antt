@@ -7,7 +7,7 @@ use mathlib.Core.List.{List}
 use native.Mathlib.Omega.{arith}
 use lib.Dec.{eqb, ltb}
 use lib.ListN.{length}
-use borrow.Author.Tests.{ltb-false, lt-ltb}
+use borrow.Author.Tests.{ltb-true, ltb-false, lt-ltb}
 use Rattle.words.specs.declared.Level.{Level}
 use Rattle.words.specs.declared.Sizes.{Sizes}
 use Rattle.words.specs.declared.Frame.{Frame}
@@ -77,6 +77,15 @@ look-rd s t w h = look-seen s t w ∙ rw h
 pub frame-is : (s : Sizes) (t : List ℕ) (l : ℕ) → l < s .levels → frames s t l ≡ frameOf s t (level l)
 unfolding frames
 frame-is s t l h = rw (lt-ltb l (s .levels) h)
+
+-- a level of the table that runs nothing runs nothing here, and so does one that is none of the table's
+pub frame-idle : (s : Sizes) (t : List ℕ) (l : ℕ) → (l < s .levels → frameOf s t (level l) .op ≡ 0) → frames s t l .op ≡ 0
+unfolding frames
+frame-idle s t l h = by (ltb l (s .levels)) refl
+  where
+    by : (b : Bool) → ltb l (s .levels) ≡ b → cond b (frameOf s t (level l)) noFrame .op ≡ 0
+    by true e = h (ltb-true l (s .levels) e)
+    by false e = refl
 
 -- ---- writing a word
 
