@@ -74,7 +74,7 @@ module _ (T : Turn) where
       o : ℕ
       o = origin top st
       Next : Type 0
-      Next = Ok T own (frontOf q M S (push l (owner (f .node .0) y) st)) (memAfter M (row E5 f (level l) (level top))) (then M (row E5 f (level l) (level top)) f)
+      Next = Ok T own (frontOf q M S (push l (owner (f .node .0) y) st)) [] (memAfter M (row E5 f (level l) (level top))) (then M (row E5 f (level l) (level top)) f)
       -- E13 or E15, the search
       search : (d : Pile top q (view q M S) fr l st false) → (k ≡ 0 → Aim top o (start (M .tail q) st) (follow st) (f .p .0) (o ≡ top)) → (k ≢ 0 → Aim top o (start (M .tail q) st) (follow st) (f .p .0) (NotPast top o (k - 1))) → f .p .0 ≢ M .tail q → Next
       search d a c ne = by-eq T (λ i. absurd (ne (sym (rw (T .here .queued) at i))))

@@ -14,6 +14,7 @@ use Rattle.lists.specs.Count.{Same, same, apart, same?, cnt, cnt-append, cnt-co
 use Rattle.lists.specs.Beginning.{Beginning, without, without-self, begins-same}
 use Rattle.state.specs.Mem.{Mem, put, put-same, put-other, upd}
 use Rattle.state.specs.Step.{memAfter, then}
+use Rattle.state.specs.Queues.{outOf}
 use Rattle.table.specs.Points.{Point, E1, E28, E29, D1, D2, D3, D4, D5, D6, D7, pointOf}
 use Rattle.table.specs.Laws.{point-is}
 use Rattle.table.specs.Table.{row}
@@ -23,7 +24,7 @@ use Rattle.invariant.specs.Ghost.{Item, loose, owner, mark, Stack, push,
 use Rattle.invariant.specs.Facts.{Regs, regs, View, Hot, Loose, e1, e28-off, e29, d1, d2, d3, d4, d5, d6, d7, Linked, e28, Here, is-loose, is-mark, is-done, Works, Pile}
 use Rattle.invariant.specs.Keep.{keep, keep-hot, no-dequeue}
 use Rattle.invariant.specs.Below.{hot-start, tail-in, start-own, none-leaving}
-use Rattle.invariant.specs.Turn.{view, Stand, StandIn, frontOf, Turn, Ok, goes-on, has-ended, Handed, nothing, handed, by-eq, Case, stay, to, below-ln, below-lq, below-next}
+use Rattle.invariant.specs.Turn.{view, Stand, StandIn, frontOf, Turn, Ok, goes-on, has-ended, by-eq, Case, stay, to, below-ln, below-lq, below-next}
 use Rattle.invariant.specs.Rules.{take-off}
 
 module _ (T : Turn) where
@@ -47,7 +48,7 @@ module _ (T : Turn) where
   pub e29-ok : Case T E29
   unfolding row
   e29-ok at S x _ b _ (is-loose z e29) d s = by-eq T
-    (λ i. has-ended (nothing (λ e. absurd (omega arith))) z (below-ln T d 0) (bare s) (begins-same _))
+    (λ i. has-ended z (below-ln T d 0) (bare s) (begins-same _))
     (λ i. to T D1 (loose [] []) refl refl refl (is-loose z (d1 (omega (arith, T .here)))) (below-ln T d 0) s)
 
   -- ---- a dequeue
@@ -64,7 +65,7 @@ module _ (T : Turn) where
   pub d2-ok : Case T D2
   unfolding row
   d2-ok at S x _ b _ (is-loose z (d2 o e)) d s = by-eq T
-    (λ i. has-ended (nothing (λ r. refl)) z d (bare s) (begins-same _))
+    (λ i. has-ended z d (bare s) (begins-same _))
     (λ i. let r = first-settled (s .settled) (λ j. i (ap (M .tail) (T .here .queued) ∙ sym j ∙ sym e)) in
       to T D3 (loose [] []) refl refl refl (is-loose z (d3 o (r .1 ∙ ap (λ y. y ∷ r .0) (sym e)))) d s)
 
@@ -77,16 +78,16 @@ module _ (T : Turn) where
       by false (apart o) = differ (lists st) (tail-in (omega (arith, T .below)) d o) (omega (arith, s .all 0, T .none))
 
   -- c is settled and not tail, so its link leads to a settled node or to tail: D3 never ends a dequeue
+  pub d3-goes-on : {S x : List ℕ} {i : Item} {b b′ : Bool} → Here top q (view q M S) l D3 (regs f) i st b b′ → Pile top q (view q M S) fr l st b → StandIn top q own M S x (push l i st) → M .next (f .c .0) ≢ 0
+  d3-goes-on (is-loose z (d3 {S′ = R} o e)) d s i = by (walk (f .c .0) (rw e at (s .settled)) (cnt-self (f .c .0) R))
+    where
+      by : Walk (M .next) (f .c .0) (M .tail q) (f .c .0 ∷ R) R → ⊥
+      by (on k) = let j : 0 < cnt 0 R = rw i at k in omega (arith, simp (e, counts) at (s .all 0), T .none)
+      by (out j k) = tail-some d s (sym j ∙ i)
+
   pub d3-ok : Case T D3
   unfolding row
-  d3-ok at S x _ b _ (is-loose z (d3 {S′ = R} o e)) d s = by-eq T (λ i. absurd (never i)) (λ i. to T D4 (loose [] []) refl refl refl (is-loose z (d4 o e)) d s)
-    where
-      never : M .next (f .c .0) ≢ 0
-      never i = by (walk (f .c .0) (rw e at (s .settled)) (cnt-self (f .c .0) R))
-        where
-          by : Walk (M .next) (f .c .0) (M .tail q) (f .c .0 ∷ R) R → ⊥
-          by (on k) = let j : 0 < cnt 0 R = rw i at k in omega (arith, simp (e, counts) at (s .all 0), T .none)
-          by (out j k) = tail-some d s (sym j ∙ i)
+  d3-ok at S x _ b _ (is-loose z (d3 o e)) d s = by-eq T (λ i. absurd (d3-goes-on (is-loose z (d3 o e)) d s i)) (λ i. to T D4 (loose [] []) refl refl refl (is-loose z (d4 o e)) d s)
 
   pub d4-ok : Case T D4
   unfolding row
@@ -155,15 +156,13 @@ module _ (T : Turn) where
   -- the node goes out: the queue has one node less
   pub d7-ok : (own′ : ℕ → ℕ) → ((y : ℕ) → own y ≡ cnt y (f .c .0 ∷ []) + own′ y) → pointOf (f .point) ≡ D7 → (S x : List ℕ) (i : Item) (b b′ : Bool)
       → Here top q (view q M S) l D7 (regs f) i st b b′ → Pile top q (view q M S) fr l st b → StandIn top q own M S x (push l i st)
-      → Ok T own′ (frontOf q M S (push l i st)) (memAfter M (row D7 f (level l) (level top))) (then M (row D7 f (level l) (level top)) f)
+      → Ok T own′ (frontOf q M S (push l i st)) (outOf (row D7 f (level l) (level top))) (memAfter M (row D7 f (level l) (level top))) (then M (row D7 f (level l) (level top)) f)
   unfolding row
   d7-ok own′ less at S x _ b _ (is-loose z (d7 o e)) d s =
-      has-ended (handed o c-some) z (pile-0 in-flight d s) (record { hot = t .hot; settled = t .settled; all = λ y. omega (arith, simp counts at (t .all y), simp counts at (less y)) })
+      has-ended z (pile-0 in-flight d s) (record { hot = t .hot; settled = t .settled; all = λ y. omega (arith, simp counts at (t .all y), simp counts at (less y)) })
         (rw (without-other (f .c .0) (leaving st ++ (S ++ M .tail q ∷ [])) e) (begins-same _))
     where
       in-flight : 0 < cnt (f .c .0) [] + cnt (f .c .0) (f .c .0 ∷ [])
       in-flight = simp counts (omega arith)
       t : StandIn top q own (upd M (Next (f .c)) 0) S x (push l (loose [] (f .c .0 ∷ [])) st)
       t = stand-0 in-flight d s
-      c-some : f .c .0 ≢ 0
-      c-some = differ (f .c .0 ∷ []) (cnt-self (f .c .0) []) (simp counts (omega (arith, simp counts at (s .all 0), T .none)))

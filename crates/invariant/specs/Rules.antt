@@ -31,14 +31,14 @@ module _ (T : Turn) where
   open Turn T using (top, q, own, fr, l, st, M, f)
 
   -- a walk along p ∷ w, at the end of which stands 0: c is its last node, or goes on to a later one
-  pub along : {own′ : ℕ → ℕ} {front w : List ℕ} {p t : ℕ} (x : ℕ) → Seg (M .next) p (p ∷ w) t → t ≡ 0 → cnt 0 w ≡ 0 → 0 < cnt (f .c .0) (p ∷ w)
-      → (Last (f .c .0) (p ∷ w) → Ok T own′ front M (goTo x f)) → (0 < cnt (M .next (f .c .0)) (p ∷ w) → Ok T own′ front M (Go (setC (M .next (f .c .0)) f)))
-      → Ok T own′ front M (walkTo x (M .next (f .c .0)) f)
+  pub along : {own′ : ℕ → ℕ} {front outs w : List ℕ} {p t : ℕ} (x : ℕ) → Seg (M .next) p (p ∷ w) t → t ≡ 0 → cnt 0 w ≡ 0 → 0 < cnt (f .c .0) (p ∷ w)
+      → (Last (f .c .0) (p ∷ w) → Ok T own′ front outs M (goTo x f)) → (0 < cnt (M .next (f .c .0)) (p ∷ w) → Ok T own′ front outs M (Go (setC (M .next (f .c .0)) f)))
+      → Ok T own′ front outs M (walkTo x (M .next (f .c .0)) f)
   unfolding walkTo
-  along {own′} {front} {w} {p} {t} x g e z h end step = by (walk (f .c .0) g h)
+  along {own′} {front} {outs} {w} {p} {t} x g e z h end step = by (walk (f .c .0) g h)
     where
-      by : Walk (M .next) (f .c .0) t (p ∷ w) w → Ok T own′ front M (ifEq (M .next (f .c .0)) 0 (goTo x f) (Go (setC (M .next (f .c .0)) f)))
-      by (on k) = by-eq T (λ i. absurd (let j : 0 < cnt 0 w = rw i at k in omega arith)) (λ i. step (simp counts (omega arith)))
+      by : Walk (M .next) (f .c .0) t (p ∷ w) w → Ok T own′ front outs M (ifEq (M .next (f .c .0)) 0 (goTo x f) (Go (setC (M .next (f .c .0)) f)))
+      by (on k) = by-eq T (λ (i : M .next (f .c .0) ≡ 0). absurd (let j : 0 < cnt 0 w = rw i at k in omega arith)) (λ i. step (simp counts (omega arith)))
       by (out i k) = by-eq T (λ j. end k) (λ j. absurd (j (i ∙ e)))
 
   -- n's chain n ∷ w is hung behind c, a node of the hot list y below: what stood behind c joins the piece

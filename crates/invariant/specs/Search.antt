@@ -34,7 +34,7 @@ module _ (T : Turn) where
   module _ {S x y : List ℕ} (z : M .lq l ≡ q) (n : M .ln l ≡ f .node .0) (t : Hot top (M .next) (origin top st) (start (M .tail q) st) (follow st) y)
       (d : Pile top q (view q M S) fr l st false) (s : StandIn top q own M S x (push l (owner (f .node .0) y) st)) where
     abbrev Then : After → Type 0
-    Then a = Ok T own (frontOf q M S (push l (owner (f .node .0) y) st)) M a
+    Then a = Ok T own (frontOf q M S (push l (owner (f .node .0) y) st)) [] M a
 
     -- the counts of what lies below
     once : (c : ℕ) → cnt c y + cnt c (lists st) ≤ 1

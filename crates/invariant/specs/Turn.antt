@@ -14,6 +14,7 @@ use Rattle.lists.specs.Beginning.{Beginning, without, begins-same}
 use Rattle.words.specs.declared.Word.the-variants.{LevelNode, LevelQueue, Next}
 use Rattle.state.specs.Mem.{Mem, put, put-same, put-other, upd}
 use Rattle.state.specs.Step.{memAfter, then}
+use Rattle.state.specs.Queues.{outOf}
 use Rattle.table.specs.Points.{Point, numberOf, pointOf}
 use Rattle.table.specs.Laws.{point-is}
 use Rattle.table.specs.Frames.{ifEq}
@@ -59,46 +60,41 @@ pub record Turn : Type 0 where
   pub listed : (j : ℕ) → j < l → M .lq j ≡ q → Listed j st
   pub alone : f .op ≡ 2 → (j : ℕ) → j < l → Works q (fr j) → fr j .op ≢ 2
 
--- what an ended operation hands out: a dequeue its node, if it has one
-pub data Handed (op n : ℕ) : List ℕ → Type 0 where
-  nothing : (op ≡ 2 → n ≡ 0) → Handed op n []
-  handed : op ≡ 2 → n ≢ 0 → Handed op n (n ∷ [])
-
 module _ (T : Turn) where
   open Turn T using (top, q, fr, l, st, M, f)
 
-  -- the step leaves memory M′ and what follows; own′ counts the queue's nodes then, and front was frozen before
-  pub data Ok (own′ : ℕ → ℕ) (front : List ℕ) (M′ : Mem) : After → Type 0 where
+  -- the step leaves memory M′ and what follows; own′ counts the queue's nodes then, front was frozen before, and outs are handed out
+  pub data Ok (own′ : ℕ → ℕ) (front outs : List ℕ) (M′ : Mem) : After → Type 0 where
     goes-on : {f′ : Frame} {p : Point} {S x : List ℕ} {i : Item} {b b′ : Bool}
       → pointOf (f′ .point) ≡ p → f′ .op ≡ f .op → f′ .queue .0 ≡ f .queue .0
       → Here top q (view q M′ S) l p (regs f′) i st b b′ → Pile top q (view q M′ S) fr l st b → StandIn top q own′ M′ S x (push l i st)
-      → Beginning front (frontOf q M′ S (push l i st)) → Ok own′ front M′ (Go f′)
-    has-ended : {n : Node} {out S x : List ℕ} {b : Bool}
-      → Handed (f .op) (n .0) out → M′ .lq l ≢ q → Pile top q (view q M′ S) fr l st b → StandIn top q own′ M′ S x st
-      → Beginning front (out ++ frontOf q M′ S st) → Ok own′ front M′ (Done n)
+      → Beginning front (outs ++ frontOf q M′ S (push l i st)) → Ok own′ front outs M′ (Go f′)
+    has-ended : {n : Node} {S x : List ℕ} {b : Bool}
+      → M′ .lq l ≢ q → Pile top q (view q M′ S) fr l st b → StandIn top q own′ M′ S x st
+      → Beginning front (outs ++ frontOf q M′ S st) → Ok own′ front outs M′ (Done n)
 
-  pub by-eq : {own′ : ℕ → ℕ} {front : List ℕ} {M′ : Mem} {a b : ℕ} {x y : After} → (a ≡ b → Ok own′ front M′ x) → (a ≢ b → Ok own′ front M′ y) → Ok own′ front M′ (ifEq a b x y)
+  pub by-eq : {own′ : ℕ → ℕ} {front outs : List ℕ} {M′ : Mem} {a b : ℕ} {x y : After} → (a ≡ b → Ok own′ front outs M′ x) → (a ≢ b → Ok own′ front outs M′ y) → Ok own′ front outs M′ (ifEq a b x y)
   unfolding ifEq
-  by-eq {own′} {front} {M′} {a} {b} {x} {y} h k = go (eqb a b) (same? a b)
+  by-eq {own′} {front} {outs} {M′} {a} {b} {x} {y} h k = go (eqb a b) (same? a b)
     where
-      go : (t : Bool) → Same a b t → Ok own′ front M′ (cond t x y)
+      go : (t : Bool) → Same a b t → Ok own′ front outs M′ (cond t x y)
       go true (same e) = h e
       go false (apart e) = k e
 
   -- a step at point p: from each ghost state that fits the frame to one that fits what the step leaves
   abbrev pub Case : Point → Type 0
   Case p = pointOf (f .point) ≡ p → (S x : List ℕ) (i : Item) (b b′ : Bool) → Here top q (view q M S) l p (regs f) i st b b′ → Pile top q (view q M S) fr l st b → StandIn top q (T .own) M S x (push l i st)
-      → Ok (T .own) (frontOf q M S (push l i st)) (memAfter M (row p f (level l) (level top))) (then M (row p f (level l) (level top)) f)
+      → Ok (T .own) (frontOf q M S (push l i st)) (outOf (row p f (level l) (level top))) (memAfter M (row p f (level l) (level top))) (then M (row p f (level l) (level top)) f)
 
   -- to point p, and the front stands still
   pub stay : {f′ : Frame} {S x : List ℕ} {b b′ : Bool} {own′ : ℕ → ℕ} {M′ : Mem} (p : Point) (i : Item) → pointOf (f′ .point) ≡ p → f′ .op ≡ f .op → f′ .queue .0 ≡ f .queue .0
       → Here top q (view q M′ S) l p (regs f′) i st b b′ → Pile top q (view q M′ S) fr l st b → StandIn top q own′ M′ S x (push l i st)
-      → Ok own′ (frontOf q M′ S (push l i st)) M′ (Go f′)
+      → Ok own′ (frontOf q M′ S (push l i st)) [] M′ (Go f′)
   stay p i a b c d e s = goes-on a b c d e s (begins-same _)
 
   pub to : {f′ : Frame} {S x : List ℕ} {b b′ : Bool} {own′ : ℕ → ℕ} {M′ : Mem} (p : Point) (i : Item) → f′ .point ≡ numberOf p → f′ .op ≡ f .op → f′ .queue .0 ≡ f .queue .0
       → Here top q (view q M′ S) l p (regs f′) i st b b′ → Pile top q (view q M′ S) fr l st b → StandIn top q own′ M′ S x (push l i st)
-      → Ok own′ (frontOf q M′ S (push l i st)) M′ (Go f′)
+      → Ok own′ (frontOf q M′ S (push l i st)) [] M′ (Go f′)
   to {f′} p i a b c d e s = stay p i (point-is p (f′ .point) a) b c d e s
 
   -- what lies below stands still: one law for each kind of store
