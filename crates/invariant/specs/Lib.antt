@@ -9,4 +9,6 @@ pub mod Append
 pub mod Insert
 pub mod Leave
 pub mod Search
+pub mod Own
 pub mod Words
+pub mod Sound

@@ -5,13 +5,11 @@ use mathlib.Core.Logic.{_≢_, _⊎_, inl, inr}
 use mathlib.Core.Bool.{Bool, true, false, cond}
 use mathlib.Core.List.{List, [], _∷_, _++_}
 use native.Mathlib.Omega.{arith}
-use lib.Dec.{eqb, ltb}
-use borrow.Author.Tests.{ltb-true, ne-eqb}
 use Rattle.words.specs.declared.Sizes.{Sizes}
 use Rattle.words.specs.declared.Frame.{Frame}
 use Rattle.words.specs.Layout.{level}
 use Rattle.words.specs.Laws.{Bound}
-use Rattle.lists.specs.Count.{hit, cnt, cnt-append, cnt-cons, cnt-nil, eqb-self, cnt-self, counts}
+use Rattle.lists.specs.Count.{cnt, cnt-append, cnt-cons, cnt-nil, eqb-self, cnt-self, counts}
 use Rattle.state.specs.Step.{State}
 use Rattle.state.specs.Queues.{On, own, Mine, Within, load, store, free}
 use Rattle.table.specs.Points.{Point, E1, E2, E3, E4, E5, E6, E7, E8, E9, E10, E11, E12, E13, E14, E15, E16, E17, E18, E19, E20, E21, E22, E23, E24, E25, E26, E27, E28, E29, D1, D2, D3, D4, D5, D6, D7, Unknown}
@@ -25,38 +23,10 @@ use Rattle.chains.specs.Member.{last-in}
 use Rattle.invariant.specs.Ghost.{Item, loose, owner, mark, Stack, push, lists, flight, follow, origin, start, Listed}
 use Rattle.invariant.specs.Facts.{Regs, regs, View, Hot, Loose, Unlinked, Linked, Here, is-loose, is-done, is-owner, is-mark, Pile,
   e1, e2, e28-off, e29, d1, d2, d3, d4, d5, d6, d7, e3, e4, e5, e6, e7, e8, e9, e13, e14, e15, e16, e17, e18, e21, e22, e10, e11, e12, e19, e20, e23, e24, e25, e26, e27, e28}
+use Rattle.invariant.specs.Own.{own-le, own-user}
 use Rattle.invariant.specs.Keep.{aim-first}
 use Rattle.invariant.specs.Below.{hot-start, nobody}
 use Rattle.invariant.specs.Turn.{view, StandIn}
-
--- ---- the count of a queue's nodes
-
-pub own-le : (Q : ℕ) (uses : ℕ → ℕ) (q x : ℕ) → own Q uses q x ≤ 1
-unfolding own
-own-le Q uses q x = by (ltb Q x) (eqb (uses x) q) (eqb x q)
-  where
-    by : (a b c : Bool) → cond a (hit b) (hit c) ≤ 1
-    by true true c = omega arith
-    by true false c = omega arith
-    by false b true = omega arith
-    by false b false = omega arith
-
-pub own-zero : (Q : ℕ) (uses : ℕ → ℕ) (q : ℕ) → 1 ≤ q → own Q uses q 0 ≡ 0
-unfolding own
-own-zero Q uses q h = by (ltb Q 0) refl
-  where
-    by : (a : Bool) → ltb Q 0 ≡ a → cond a (hit (eqb (uses 0) q)) (hit (eqb 0 q)) ≡ 0
-    by true e = absurd (omega (arith, ltb-true Q 0 e))
-    by false e = rw (ne-eqb 0 q (omega arith))
-
--- a node of the queue that is not its sentinel is the user's
-pub own-user : (Q : ℕ) (uses : ℕ → ℕ) (q x : ℕ) → own Q uses q x ≡ 1 → x ≢ q → Q < x
-unfolding own
-own-user Q uses q x = by (ltb Q x) refl
-  where
-    by : (a : Bool) → ltb Q x ≡ a → cond a (hit (eqb (uses x) q)) (hit (eqb x q)) ≡ 1 → x ≢ q → Q < x
-    by true e h n = ltb-true Q x e
-    by false e h n = let k : hit (eqb x q) ≡ 0 = rw (ne-eqb x q n) in absurd (omega arith)
 
 -- ---- no operation stands at an unknown point
 
