@@ -12,3 +12,4 @@ pub mod Search
 pub mod Own
 pub mod Words
 pub mod Sound
+pub mod Step

@@ -39,7 +39,7 @@ no-unlinked = elim [ ]
 no-linked : {top tail o t p : ℕ} {next : ℕ → ℕ} {w : List ℕ} {g : Regs} → Linked top next tail o t p w Unknown g → ⊥
 no-linked = elim [ ]
 
-unknown : {top q l : ℕ} {v : View} {g : Regs} {i : Item} {st : Stack} {b b′ : Bool} → Here top q v l Unknown g i st b b′ → ⊥
+pub unknown : {top q l : ℕ} {v : View} {g : Regs} {i : Item} {st : Stack} {b b′ : Bool} → Here top q v l Unknown g i st b b′ → ⊥
 unknown (is-loose z t) = no-loose t
 unknown (is-owner z n t u) = no-unlinked u
 unknown (is-mark z n t) = no-linked t
