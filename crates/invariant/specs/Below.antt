@@ -15,7 +15,7 @@ use Rattle.chains.specs.Seg.{Seg, seg-head, Walk, on, out, walk, stop, link}
 use Rattle.invariant.specs.Ghost.{Item, loose, owner, mark, Stack, floor, push, lists, flight, leaving, follow, origin, start, Listed}
 use Rattle.invariant.specs.Facts.{Regs, regs, View, Hot, Loose, d7, e1, e2, e28-off, e29, d1, d2, d3, d4, d5, d6, Free, Highest, Unlinked, Cut, Linked, e10, e11, e12, e19, e20, e23, e24, e25, e26, e27, e28,
   Here, is-loose, is-done, is-owner, is-mark, Works, Pile, bottom, upon}
-use Rattle.invariant.specs.Keep.{upon′, keep, Fetches, the-same}
+use Rattle.invariant.specs.Keep.{upon′, keep-all, Fetches, the-same}
 
 -- ---- levels
 
@@ -271,6 +271,6 @@ taken-off {top} {q} {k = k} {v = v} {fr = fr} c q≥ (upon {l = l} a o e (is-don
   let k= = highest-top a z h d s in
   let off : put (v .lq) k 0 l ≢ q = rw (sym k=) (rw (put-same (v .lq) k 0) (omega arith)) in
   upon′ a o e (is-loose off e28-off)
-    (keep v (with-lq v (put (v .lq) k 0)) fr fr l (lists st ++ flight st) (omega arith) (λ j m. refl) (λ j m. refl)
+    (keep-all v (with-lq v (put (v .lq) k 0)) fr fr l (lists st ++ flight st) (omega arith) (λ j m. refl) (λ j m. refl)
       (λ j m. put-other (v .lq) k 0 j (omega arith)) (λ y m. refl) (λ j m n. the-same refl [] (sym (append-nil (v .settled))) (λ y r. refl))
       (omega arith) (λ y. simp counts (omega arith)) (λ r. refl) d)

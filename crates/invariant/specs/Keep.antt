@@ -51,8 +51,14 @@ module _ {q : ℕ} {next next′ : ℕ → ℕ} {head head′ : ℕ} {S S′ : L
 pub keep-hot : {top o s t : ℕ} {next next′ : ℕ → ℕ} {x : List ℕ} → ((y : ℕ) → 0 < cnt y x → next′ y ≡ next y) → Hot top next o s t x → Hot top next′ o s t x
 keep-hot next= h = record { more = h .more; begins = h .begins; linked = seg-same next= (h .linked); alone = h .alone }
 
-keep-highest : {q l k : ℕ} {lq lq′ : ℕ → ℕ} → ((j : ℕ) → j < l → lq′ j ≡ lq j) → Highest lq q k l → Highest lq′ q k l
-keep-highest {k = k} lq= h = record { below = h .below; registered = lq= k (h .below) ∙ h .registered; free = λ j a b. rw (lq= j b) (h .free j a b) }
+-- the words of the levels below l: those registered stay so and show the same node, and the others do not become so
+pub record Steady (q l : ℕ) (ln ln′ lq lq′ : ℕ → ℕ) : Type 0 where
+  pub shows : (j : ℕ) → j < l → lq j ≡ q → ln′ j ≡ ln j
+  pub stays : (j : ℕ) → j < l → lq j ≡ q → lq′ j ≡ q
+  pub stays-off : (j : ℕ) → j < l → lq j ≢ q → lq′ j ≢ q
+
+keep-highest : {q l k : ℕ} {ln ln′ lq lq′ : ℕ → ℕ} → Steady q l ln ln′ lq lq′ → Highest lq q k l → Highest lq′ q k l
+keep-highest {k = k} w h = record { below = h .below; registered = w .stays k (h .below) (h .registered); free = λ j a b. w .stays-off j b (h .free j a b) }
 
 -- the first node of a chain is in its hot list
 pub aim-first : {top o s t p : ℕ} {next : ℕ → ℕ} {x : List ℕ} → Hot top next o s t x → Aim top o s t p ⊥ → 0 < cnt p x
@@ -60,23 +66,22 @@ aim-first {s = s} h (behind r t i) = rw (i, h .begins) (cnt-self s (h .more))
 aim-first h (before i z r) = absurd r
 
 keep-unlinked : {top q l : ℕ} {ln ln′ lq lq′ next next′ : ℕ → ℕ} {tail tail′ o s t : ℕ} {x lower : List ℕ} {b : Bool} {p : Point} {g : Regs}
-    → ((j : ℕ) → j < l → ln′ j ≡ ln j) → ((j : ℕ) → j < l → lq′ j ≡ lq j) → ((y : ℕ) → 0 < cnt y x → next′ y ≡ next y) → tail′ ≡ tail
-    → Hot top next o s t x → Unlinked top q l ln lq next tail o s t x lower b p g → Unlinked top q l ln′ lq′ next′ tail′ o s t x lower b p g
-keep-unlinked ln= lq= next= tail= o (e3 a h) = e3 a (λ j i k. rw (lq= j k) (h j i k))
-keep-unlinked ln= lq= next= tail= o (e4 h) = e4 (keep-highest lq= h)
-keep-unlinked ln= lq= next= tail= o (e5 {g = g} h e) = e5 (keep-highest lq= h) (e ∙ sym (ln= (g .k) (h .below)))
-keep-unlinked ln= lq= next= tail= o (e6 h e) = e6 (keep-highest lq= h) e
-keep-unlinked ln= lq= next= tail= o (e7 h) = e7 (λ j i. rw (lq= j i) (h j i))
-keep-unlinked ln= lq= next= tail= o (e8 h e) = e8 (λ j i. rw (lq= j i) (h j i)) (e ∙ sym tail=)
-keep-unlinked ln= lq= next= tail= o (e9 h e) = e9 (λ j i. rw (lq= j i) (h j i)) (e ∙ sym tail=)
-keep-unlinked ln= lq= next= tail= o (e13 s a h) = e13 s a h
-keep-unlinked ln= lq= next= tail= o (e14 {g = g} s a h e) = e14 s a h (lq= (g .m) h ∙ e)
-keep-unlinked ln= lq= next= tail= o (e15 s a) = e15 s a
-keep-unlinked ln= lq= next= tail= o (e16 s a m c) = e16 s a m c
-keep-unlinked ln= lq= next= tail= o (e17 s a) = e17 s a
-keep-unlinked ln= lq= next= tail= o (e18 {g = g} s a e) = e18 s a (e ∙ sym (next= (g .p) (aim-first o a)))
-keep-unlinked ln= lq= next= tail= o (e21 s e z h) = e21 s e z h
-keep-unlinked ln= lq= next= tail= o (e22 s e z h r) = e22 s e z h r
+    → Steady q l ln ln′ lq lq′ → ((y : ℕ) → 0 < cnt y x → next′ y ≡ next y) → tail′ ≡ tail → Hot top next o s t x → Unlinked top q l ln lq next tail o s t x lower b p g → Unlinked top q l ln′ lq′ next′ tail′ o s t x lower b p g
+keep-unlinked w next= tail= o (e3 a h) = e3 a (λ j i k. w .stays-off j k (h j i k))
+keep-unlinked w next= tail= o (e4 h) = e4 (keep-highest w h)
+keep-unlinked w next= tail= o (e5 {g = g} h e) = e5 (keep-highest w h) (e ∙ sym (w .shows (g .k) (h .below) (h .registered)))
+keep-unlinked w next= tail= o (e6 h e) = e6 (keep-highest w h) e
+keep-unlinked w next= tail= o (e7 h) = e7 (λ j i. w .stays-off j i (h j i))
+keep-unlinked w next= tail= o (e8 h e) = e8 (λ j i. w .stays-off j i (h j i)) (e ∙ sym tail=)
+keep-unlinked w next= tail= o (e9 h e) = e9 (λ j i. w .stays-off j i (h j i)) (e ∙ sym tail=)
+keep-unlinked w next= tail= o (e13 s a h) = e13 s a h
+keep-unlinked w next= tail= o (e14 {g = g} s a h e) = e14 s a h (w .stays (g .m) h e)
+keep-unlinked w next= tail= o (e15 s a) = e15 s a
+keep-unlinked w next= tail= o (e16 s a m c) = e16 s a m c
+keep-unlinked w next= tail= o (e17 s a) = e17 s a
+keep-unlinked w next= tail= o (e18 {g = g} s a e) = e18 s a (e ∙ sym (next= (g .p) (aim-first o a)))
+keep-unlinked w next= tail= o (e21 s e z h) = e21 s e z h
+keep-unlinked w next= tail= o (e22 s e z h r) = e22 s e z h r
 
 -- ---- a frame that is linked in
 
@@ -117,26 +122,37 @@ below-tail h (is-mark z e t) (inr r) = inr r
 below-tail h (is-mark z e t) (inl r) = let c : _≡_ {A = ℕ} 0 1 = cc in absurd (omega arith)
 
 module _ {top q : ℕ} (v v′ : View) (fr fr′ : ℕ → Frame) (l : ℕ) (Z : List ℕ) (l≤ : l ≤ top)
-    (fr= : (j : ℕ) → j < l → fr′ j ≡ fr j) (ln= : (j : ℕ) → j < l → v′ .ln j ≡ v .ln j) (lq= : (j : ℕ) → j < l → v′ .lq j ≡ v .lq j)
+    (fr= : (j : ℕ) → j < l → Works q (fr j) → fr′ j ≡ fr j) (ln= : (j : ℕ) → j < l → Works q (fr j) → v′ .ln j ≡ v .ln j) (levels : Steady q l (v .ln) (v′ .ln) (v .lq) (v′ .lq))
     (next= : (y : ℕ) → 0 < cnt y Z → v′ .next y ≡ v .next y)
     (fetches : (j : ℕ) → j < l → Works q (fr j) → Fetches (fr j .op) (v .next) (v′ .next) (v .head) (v′ .head) (v .settled) (v′ .settled)) where
   keep-here : {j : ℕ} {p : Point} {i : Item} {st : Stack} {b b′ : Bool} → j < l → Works q (fr j)
       → ((y : ℕ) → cnt y (lists (push j i st)) + cnt y (flight (push j i st)) ≤ cnt y Z) → ((b′ ≡ true) ⊎ (origin top (push j i st) ≢ top) → v′ .tail ≡ v .tail)
       → Here top q v j p (regs (fr j)) i st b b′ → Here top q v′ j p (regs (fr j)) i st b b′
   keep-here {j} h o sub tail= (is-loose {ins = ins} {outs = outs} z t) =
-    is-loose (rw (lq= j h) z) (keep-loose (ln= j h) (λ y (m : 0 < cnt y ins). next= y (omega (arith, simp counts at (sub y)))) (fetches j h o) t)
-  keep-here {j} h o sub tail= (is-done z e r) = is-done (lq= j h ∙ z) (ln= j h ∙ e ∙ sym (tail= (inl refl))) r
+    is-loose (levels .stays-off j h z) (keep-loose (ln= j h o) (λ y (m : 0 < cnt y ins). next= y (omega (arith, simp counts at (sub y)))) (fetches j h o) t)
+  keep-here {j} h o sub tail= (is-done z e r) = is-done (levels .stays j h z) (ln= j h o ∙ e ∙ sym (tail= (inl refl))) r
   keep-here {j} h o sub tail= (is-owner {x = x} z e t u) =
     let tl = tail= (inr (λ (c : j ≡ top). omega arith)) in
     let nx : (y : ℕ) → 0 < cnt y x → v′ .next y ≡ v .next y = λ y m. next= y (omega (arith, simp counts at (sub y))) in
-    is-owner (lq= j h ∙ z) (ln= j h ∙ e) (rw (sym tl) at (keep-hot nx t)) (rw (sym tl) at (keep-unlinked (λ k (i : k < j). ln= k (omega arith)) (λ k (i : k < j). lq= k (omega arith)) nx refl t u))
+    let lower : Steady q j (v .ln) (v′ .ln) (v .lq) (v′ .lq) = record
+          { shows = λ k i. levels .shows k (omega arith); stays = λ k i. levels .stays k (omega arith); stays-off = λ k i. levels .stays-off k (omega arith) } in
+    is-owner (levels .stays j h z) (ln= j h o ∙ e) (rw (sym tl) at (keep-hot nx t)) (rw (sym tl) at (keep-unlinked lower nx refl t u))
   keep-here {j} h o sub tail= (is-mark {s = s} {w = w} z e t) =
-    is-mark (lq= j h ∙ z) (ln= j h ∙ e) (keep-linked (λ y (m : 0 < cnt y (s ∷ w)). next= y (omega (arith, simp counts at (sub y), simp counts at m))) (λ r. tail= (inr r)) t)
+    is-mark (levels .stays j h z) (ln= j h o ∙ e) (keep-linked (λ y (m : 0 < cnt y (s ∷ w)). next= y (omega (arith, simp counts at (sub y), simp counts at m))) (λ r. tail= (inr r)) t)
 
   pub keep : {n : ℕ} {st : Stack} {b : Bool} → n ≤ l → ((y : ℕ) → cnt y (lists st) + cnt y (flight st) ≤ cnt y Z) → ((b ≡ true) ⊎ (origin top st ≢ top) → v′ .tail ≡ v .tail)
       → Pile top q v fr n st b → Pile top q v′ fr′ n st b
   keep h sub tail= bottom = bottom
   keep h sub tail= (upon {l = j} {i = i} {st = st} a o e t d) =
     let j< : j < l = omega arith in
-    upon′ a (rw (fr= j j<) o) (ap (λ f. pointOf (f .point)) (fr= j j<) ∙ e) (rw (fr= j j<) (keep-here j< o sub tail= t))
+    upon′ a (rw (fr= j j< o) o) (ap (λ f. pointOf (f .point)) (fr= j j< o) ∙ e) (rw (fr= j j< o) (keep-here j< o sub tail= t))
       (keep (omega arith) (λ y. omega (arith, sub y, below-item j i st y)) (λ r. tail= (below-tail (omega arith) t r)) d)
+
+-- the same where no word of a lower level moves
+pub keep-all : {top q n : ℕ} {st : Stack} {b : Bool} (v v′ : View) (fr fr′ : ℕ → Frame) (l : ℕ) (Z : List ℕ) → l ≤ top
+    → ((j : ℕ) → j < l → fr′ j ≡ fr j) → ((j : ℕ) → j < l → v′ .ln j ≡ v .ln j) → ((j : ℕ) → j < l → v′ .lq j ≡ v .lq j) → ((y : ℕ) → 0 < cnt y Z → v′ .next y ≡ v .next y)
+    → ((j : ℕ) → j < l → Works q (fr j) → Fetches (fr j .op) (v .next) (v′ .next) (v .head) (v′ .head) (v .settled) (v′ .settled))
+    → n ≤ l → ((y : ℕ) → cnt y (lists st) + cnt y (flight st) ≤ cnt y Z) → ((b ≡ true) ⊎ (origin top st ≢ top) → v′ .tail ≡ v .tail)
+    → Pile top q v fr n st b → Pile top q v′ fr′ n st b
+keep-all v v′ fr fr′ l Z a fr= ln= lq= next= fetches b c d e = keep v v′ fr fr′ l Z a (λ j m w. fr= j m) (λ j m w. ln= j m)
+  (record { shows = λ j m r. ln= j m; stays = λ j m r. lq= j m ∙ r; stays-off = λ j m r. rw (lq= j m) r }) next= fetches b c d e

@@ -22,7 +22,7 @@ use Rattle.chains.specs.Member.{Last, differ}
 use Rattle.chains.specs.Seg.{Seg, stop, link, seg-put, seg-head, seg-rest, seg-nil, Walk, on, out, walk}
 use Rattle.invariant.specs.Ghost.{Item, loose, owner, mark, Stack, push, lists, flight, leaving, follow, origin, start}
 use Rattle.invariant.specs.Facts.{Regs, regs, View, Hot, Loose, e1, e28-off, e29, d1, d2, d3, d4, d5, d6, d7, Linked, e28, Here, is-loose, is-mark, is-done, Works, Pile}
-use Rattle.invariant.specs.Keep.{keep, keep-hot, no-dequeue}
+use Rattle.invariant.specs.Keep.{keep-all, keep-hot, no-dequeue}
 use Rattle.invariant.specs.Below.{hot-start, tail-in, start-own, none-leaving}
 use Rattle.invariant.specs.Turn.{view, Stand, StandIn, frontOf, Turn, Ok, goes-on, has-ended, by-eq, Case, stay, to, below-ln, below-lq, below-next}
 use Rattle.invariant.specs.Rules.{take-off}
@@ -97,7 +97,7 @@ module _ (T : Turn) where
   module _ {S R x : List ℕ} {b : Bool} (o : f .op ≡ 2) (e : S ≡ f .c .0 ∷ R) (r : f .r .0 ≡ M .next (f .c .0)) (d : Pile top q (view q M S) fr l st b)
       (s : StandIn top q own M S x (push l (loose [] []) st)) where
     pile : Pile top q (view q (upd M (Head (f .queue)) (f .r .0)) R) fr l st b
-    pile = keep (view q M S) (view q (upd M (Head (f .queue)) (f .r .0)) R) fr fr l (lists st ++ flight st) (omega (arith, T .below)) (λ j m. refl) (λ j m. refl) (λ j m. refl) (λ y m. refl)
+    pile = keep-all (view q M S) (view q (upd M (Head (f .queue)) (f .r .0)) R) fr fr l (lists st ++ flight st) (omega (arith, T .below)) (λ j m. refl) (λ j m. refl) (λ j m. refl) (λ y m. refl)
       (λ j m n. no-dequeue (T .alone o j m n)) (omega arith) (λ y. simp counts (omega arith)) (λ k. refl) d
 
     head= : put (M .head) (f .queue .0) (f .r .0) q ≡ M .next (f .c .0)

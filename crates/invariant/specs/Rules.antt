@@ -18,7 +18,7 @@ use Rattle.table.specs.Frames.{ifEq, goTo, setC, walkTo}
 use Rattle.table.specs.declared.After.the-variants.{Go}
 use Rattle.invariant.specs.Ghost.{Item, loose, owner, mark, Stack, push, lists, flight, leaving, follow, origin, start}
 use Rattle.invariant.specs.Facts.{Regs, regs, View, Hot, Cut, Pile}
-use Rattle.invariant.specs.Keep.{keep, the-same}
+use Rattle.invariant.specs.Keep.{keep-all, the-same}
 use Rattle.invariant.specs.Below.{hot-start, start-own}
 use Rattle.invariant.specs.Turn.{view, Stand, StandIn, frontOf, Turn, Ok, by-eq, below-next}
 
@@ -139,7 +139,7 @@ module _ (T : Turn) where
       tail= : put (M .tail) (f .queue .0) p q ≡ p
       tail= = rw (T .here .queued) (put-same (M .tail) q p)
       pile : Pile top q (view q (upd M (Tail (f .queue)) p) (S ++ x)) fr l st false
-      pile = keep (view q M S) (view q M′ (S ++ x)) fr fr l (lists st ++ flight st) (omega (arith, T .below)) (λ j m. refl) (λ j m. refl) (λ j m. refl) (λ y m. refl)
+      pile = keep-all (view q M S) (view q M′ (S ++ x)) fr fr l (lists st ++ flight st) (omega (arith, T .below)) (λ j m. refl) (λ j m. refl) (λ j m. refl) (λ y m. refl)
         (λ j m n. the-same refl x refl (λ y r. refl)) (omega arith) (λ y. simp counts (omega arith)) (λ r. absurd (no r)) d
         where
           no : (false ≡ true) ⊎ (origin top st ≢ top) → ⊥

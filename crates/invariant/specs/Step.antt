@@ -24,7 +24,7 @@ use Rattle.table.specs.declared.After.{After}
 use Rattle.table.specs.declared.After.the-variants.{Go, Done}
 use Rattle.invariant.specs.Ghost.{Item, loose, owner, mark, Stack, floor, push, lists, flight, leaving, follow, origin, start, Listed}
 use Rattle.invariant.specs.Facts.{Regs, regs, View, Hot, Here, is-loose, d1, d2, d3, d4, d5, d6, d7, Works, Pile, bottom, upon}
-use Rattle.invariant.specs.Keep.{upon′, keep, keep-hot, the-same}
+use Rattle.invariant.specs.Keep.{upon′, keep-all, keep-hot, the-same}
 use Rattle.invariant.specs.Below.{listed-below, listed-lower}
 use Rattle.invariant.specs.Turn.{view, Stand, StandIn, frontOf, Turn, Ok, goes-on, has-ended}
 use Rattle.invariant.specs.Enter.{e1-ok, e2-ok, e3-ok, e4-ok, e5-ok, e6-ok}
@@ -139,7 +139,7 @@ owned-before {s} {q} {W} p (free {n = n} a b c) y e = omega (arith, own-freed (s
 -- a pile reads only the frames of its levels
 same-frames : {top q l : ℕ} {v : View} {st : Stack} {b : Bool} (fr : ℕ → Frame) (g : Frame) → l ≤ top → Pile top q v fr l st b → Pile top q v (put fr l g) l st b
 same-frames {l = l} {v = v} {st = st} fr g h d =
-  keep v v fr (put fr l g) l (lists st ++ flight st) h (λ j m. put-other fr l g j (omega arith)) (λ j m. refl) (λ j m. refl) (λ y m. refl)
+  keep-all v v fr (put fr l g) l (lists st ++ flight st) h (λ j m. put-other fr l g j (omega arith)) (λ j m. refl) (λ j m. refl) (λ y m. refl)
     (λ j m n. the-same refl [] (sym (append-nil (v .settled))) (λ y r. refl)) (omega arith) (λ y. simp counts (omega arith)) (λ r. refl) d
 
 -- and stands below every higher level

@@ -24,7 +24,7 @@ use Rattle.table.specs.declared.After.the-variants.{Go, Done}
 use Rattle.chains.specs.Seg.{Seg}
 use Rattle.invariant.specs.Ghost.{Item, loose, owner, mark, Stack, floor, push, lists, flight, leaving, follow, origin, start, Listed}
 use Rattle.invariant.specs.Facts.{Regs, regs, View, Hot, Here, Works, Pile}
-use Rattle.invariant.specs.Keep.{keep, Fetches, the-same}
+use Rattle.invariant.specs.Keep.{keep-all, Fetches, the-same}
 
 -- what queue q's facts read in a memory
 abbrev pub view : ℕ → Mem → List ℕ → View
@@ -103,7 +103,7 @@ module _ (T : Turn) where
         → ((y : ℕ) → 0 < cnt y S + cnt y (lists st) + cnt y (flight st) → M′ .next y ≡ M .next y) → M′ .head q ≡ M .head q → M′ .tail q ≡ M .tail q
         → Pile top q (view q M′ S) fr l st b
     same-below M′ ln= lq= next= head= tail= =
-      keep (view q M S) (view q M′ S) fr fr l (lists st ++ flight st) (omega (arith, T .below)) (λ j m. refl) ln= lq= (λ y (m : 0 < cnt y (lists st ++ flight st)). next= y (omega (arith, cnt-append y (lists st) (flight st))))
+      keep-all (view q M S) (view q M′ S) fr fr l (lists st ++ flight st) (omega (arith, T .below)) (λ j m. refl) ln= lq= (λ y (m : 0 < cnt y (lists st ++ flight st)). next= y (omega (arith, cnt-append y (lists st) (flight st))))
         (λ j m n. the-same head= [] (sym (append-nil S)) (λ y (r : 0 < cnt y S). next= y (omega arith))) (omega arith) (λ y. simp counts (omega arith)) (λ r. tail=) d
 
     pub below-ln : (v : ℕ) → Pile top q (view q (upd M (LevelNode (level l)) v) S) fr l st b
