@@ -12,4 +12,7 @@ pub mod Search
 pub mod Own
 pub mod Words
 pub mod Sound
+pub mod Levels
 pub mod Step
+pub mod Begin
+pub mod Others

@@ -34,6 +34,7 @@ use Rattle.invariant.specs.Insert.{e17-ok, e18-ok, e19-ok, e20-ok, e21-o
 use Rattle.invariant.specs.Leave.{e28-ok, e29-ok, d1-ok, d2-ok, d3-ok, d3-goes-on, d4-ok, d5-ok, d6-ok, d7-ok}
 use Rattle.invariant.specs.Own.{own-le, own-zero, own-user, own-freed}
 use Rattle.invariant.specs.Words.{within, unknown}
+use Rattle.invariant.specs.Levels.{each, same-frames, raise}
 use Rattle.invariant.specs.Sound.{Sound}
 
 -- ---- the step, point by point
@@ -136,17 +137,6 @@ owned-before p (store {w = Next i} b m) y e = e
 owned-before p (store {w = Use i} b m) y e = absurd m
 owned-before {s} {q} {W} p (free {n = n} a b c) y e = omega (arith, own-freed (s .queues) (W .mem .uses) q (n .0) p a c y, own-le (s .queues) (W .mem .uses) q y)
 
--- a pile reads only the frames of its levels
-same-frames : {top q l : ℕ} {v : View} {st : Stack} {b : Bool} (fr : ℕ → Frame) (g : Frame) → l ≤ top → Pile top q v fr l st b → Pile top q v (put fr l g) l st b
-same-frames {l = l} {v = v} {st = st} fr g h d =
-  keep-all v v fr (put fr l g) l (lists st ++ flight st) h (λ j m. put-other fr l g j (omega arith)) (λ j m. refl) (λ j m. refl) (λ y m. refl)
-    (λ j m n. the-same refl [] (sym (append-nil (v .settled))) (λ y r. refl)) (omega arith) (λ y. simp counts (omega arith)) (λ r. refl) d
-
--- and stands below every higher level
-raise : {top q l n : ℕ} {v : View} {fr : ℕ → Frame} {st : Stack} {b : Bool} → l ≤ n → Pile top q v fr l st b → Pile top q v fr n st b
-raise h bottom = bottom
-raise h (upon a o e t d) = upon′ (omega arith) o e t d
-
 -- the invariant after a step, with the front then
 pub record Kept (s : Sizes) (q : ℕ) (W : State) (front outs : List ℕ) : Type 0 where
   pub front′ : List ℕ
@@ -158,23 +148,15 @@ module _ (s : Sizes) (q l : ℕ) (W : State) (st : Stack) (low : l < s .levels) 
     (i₀ : Item) (on-stack : (j : ℕ) → On q (W .frames j) → Listed j (push l i₀ st)) (q≤ : q ≤ s .queues)
     (one : (i j : ℕ) → On q (W .frames i) → On q (W .frames j) → W .frames i .op ≡ 2 → W .frames j .op ≡ 2 → i ≡ j)
     (front outs : List ℕ) (M′ : Mem) (registered : (j : ℕ) → M′ .lq j ≡ q → On q (W .frames j)) (nodes : (y : ℕ) → own (s .queues) (M′ .uses) q y ≡ 1 → (1 ≤ y) × (y ≤ s .nodes)) where
-  -- a fact of every level: of l, and of the others
-  each : (P : ℕ → Frame → Type 0) (g : Frame) → P l g → ((j : ℕ) → j ≢ l → P j (W .frames j)) → (j : ℕ) → P j (put (W .frames) l g j)
-  each P g h k j = by (eqb j l) (same? j l)
-    where
-      by : (t : Bool) → Same j l t → P j (put (W .frames) l g j)
-      by true (same e) = rw (e, put-same (W .frames) l g) h
-      by false (apart e) = rw (put-other (W .frames) l g j e) (k j e)
-
   -- the frames on the queue were on it before, with the same op
   one-then : (g : Frame) → (On q g → On q (W .frames l)) → (On q g → g .op ≡ 2 → W .frames l .op ≡ 2)
       → (i j : ℕ) → On q (put (W .frames) l g i) → On q (put (W .frames) l g j) → put (W .frames) l g i .op ≡ 2 → put (W .frames) l g j .op ≡ 2 → i ≡ j
   one-then g h k i j a b c d = one i j (was i a) (was j b) (did i a c) (did j b d)
     where
       was : (j : ℕ) → On q (put (W .frames) l g j) → On q (W .frames j)
-      was = each (λ j f. On q f → On q (W .frames j)) g h (λ j n o. o)
+      was = each (W .frames) l (λ j f. On q f → On q (W .frames j)) g h (λ j n o. o)
       did : (j : ℕ) → On q (put (W .frames) l g j) → put (W .frames) l g j .op ≡ 2 → W .frames j .op ≡ 2
-      did = each (λ j f. On q f → f .op ≡ 2 → W .frames j .op ≡ 2) g k (λ j n o e. e)
+      did = each (W .frames) l (λ j f. On q f → f .op ≡ 2 → W .frames j .op ≡ 2) g k (λ j n o e. e)
 
   on : On q (W .frames l)
   on = ((λ (z : W .frames l .op ≡ 0). omega (arith, works)), works .queued)
@@ -185,8 +167,8 @@ module _ (s : Sizes) (q l : ℕ) (W : State) (st : Stack) (low : l < s .levels) 
       { settled = S; hot = x; stack = push l i st; done = b
       ; pile = upon′ low (rw (put-same (W .frames) l g) w) (ap (λ f. pointOf (f .point)) (put-same (W .frames) l g) ∙ at) (rw (put-same (W .frames) l g) h) (same-frames (W .frames) g (omega arith) d)
       ; stand = t
-      ; listed = each (λ j f. On q f → Listed j (push l i st)) g (λ o. inl refl) (λ j n o. on-stack j o)
-      ; registered = each (λ j f. M′ .lq j ≡ q → On q f) g (λ r. ((λ (z : g .op ≡ 0). omega (arith, w)), w .queued)) (λ j n r. registered j r)
+      ; listed = each (W .frames) l (λ j f. On q f → Listed j (push l i st)) g (λ o. inl refl) (λ j n o. on-stack j o)
+      ; registered = each (W .frames) l (λ j f. M′ .lq j ≡ q → On q f) g (λ r. ((λ (z : g .op ≡ 0). omega (arith, w)), w .queued)) (λ j n r. registered j r)
       ; one = one-then g (λ o. on) (λ o k. sym op ∙ k)
       ; nodes = nodes; low = q≥; high = q≤; front-is = refl } }
     where
@@ -196,8 +178,8 @@ module _ (s : Sizes) (q l : ℕ) (W : State) (st : Stack) (low : l < s .levels) 
       { settled = S; hot = x; stack = st; done = b
       ; pile = raise (omega arith) (same-frames (W .frames) noFrame (omega arith) d)
       ; stand = t
-      ; listed = each (λ j f. On q f → Listed j st) noFrame (λ o. absurd (o .0 refl)) (λ j n o. listed-lower st n (on-stack j o))
-      ; registered = each (λ j f. M′ .lq j ≡ q → On q f) noFrame (λ r. absurd (z r)) (λ j n r. registered j r)
+      ; listed = each (W .frames) l (λ j f. On q f → Listed j st) noFrame (λ o. absurd (o .0 refl)) (λ j n o. listed-lower st n (on-stack j o))
+      ; registered = each (W .frames) l (λ j f. M′ .lq j ≡ q → On q f) noFrame (λ r. absurd (z r)) (λ j n r. registered j r)
       ; one = one-then noFrame (λ o. absurd (o .0 refl)) (λ o. absurd (o .0 refl))
       ; nodes = nodes; low = q≥; high = q≤; front-is = refl } }
 
