@@ -13,8 +13,49 @@ use Rattle.table.specs.Points.{Point, pointOf}
 use Rattle.chains.specs.Member.{either, differ}
 use Rattle.chains.specs.Seg.{Seg, seg-head, Walk, on, out, walk, stop, link}
 use Rattle.invariant.specs.Ghost.{Item, loose, owner, mark, Stack, floor, push, lists, flight, leaving, follow, origin, start, Listed}
-use Rattle.invariant.specs.Facts.{Regs, regs, View, Hot, Loose, d7, e1, e2, e28-off, e29, d1, d2, d3, d4, d5, d6, Free, Highest, Unlinked, Cut, Linked, e10, e11, e12, e19, e20, e23, e24, e25, e26, e27, e28,
-  Here, is-loose, is-done, is-owner, is-mark, Works, Pile, bottom, upon}
+use Rattle.invariant.specs.Facts.{
+  Regs,
+  regs,
+  View,
+  Hot,
+  Loose,
+  d7,
+  e1,
+  e2,
+  e28-off,
+  e29,
+  d1,
+  d2,
+  d3,
+  d4,
+  d5,
+  d6,
+  Free,
+  Highest,
+  Unlinked,
+  Cut,
+  Linked,
+  e10,
+  e11,
+  e12,
+  e19,
+  e20,
+  e23,
+  e24,
+  e25,
+  e26,
+  e27,
+  e28,
+  Here,
+  is-loose,
+  is-done,
+  is-owner,
+  is-mark,
+  Works,
+  Pile,
+  bottom,
+  upon,
+}
 use Rattle.invariant.specs.Keep.{upon′, keep-all, Fetches, the-same}
 
 -- ---- levels
@@ -121,6 +162,7 @@ mark-apart {top} {v = v} {st = st} p x w c d s once e = by (eqb (origin top st) 
   where
     twice : cnt (v .tail) x + cnt (v .tail) (lists st) ≡ 0
     twice = rw (sym e) (omega (arith, simp counts at (once p)))
+
     by : (t : Bool) → Same (origin top st) top t → ⊥
     by true (same r) = let h : 0 < cnt (v .tail) x = rw (start-own c d r) at s in omega (arith, twice)
     by false (apart r) = omega (arith, tail-in c d r, twice)
@@ -131,10 +173,10 @@ pub shown : {top q n k : ℕ} {v : View} {fr : ℕ → Frame} {st : Stack} {b : 
 shown x c (upon a o e (is-loose {st = st} z t) d) h s w once none = let s′ = highest-lower st z h s in shown x (omega arith) d (lower-highest (listed-below d s′) a h) s′ w once none
 shown x c (upon a o e (is-done z i t) d) h s w once none = at-done (rw (highest-top a z h d s) i)
 shown {top} {v = v} x c (upon {l = l} {st = st} a o e (is-owner {x = y} z i t u) d) h s w once none =
-  let in-lists = tail-in c (upon a o e (is-owner z i t u) d) (λ (r : l ≡ top). omega arith) in
-  rw (highest-top a z h d s) (at-owner (omega arith) refl i (rw i (differ x w (omega (arith, once (v .tail))))))
+    let in-lists = tail-in c (upon a o e (is-owner z i t u) d) (λ (r : l ≡ top). omega arith) in
+    rw (highest-top a z h d s) (at-owner (omega arith) refl i (rw i (differ x w (omega (arith, once (v .tail))))))
 shown {v = v} x c (upon {l = l} {st = st} a o e (is-mark {s = p} {w = m} z i t) d) h s w once none =
-  rw (highest-top a z h d s) (at-mark i (rw i (differ (p ∷ (m ++ lists st)) (cnt-self p (m ++ lists st)) none)) (λ r. origin-below d r) (rw i (mark-apart p x m (omega arith) d w once)))
+    rw (highest-top a z h d s) (at-mark i (rw i (differ (p ∷ (m ++ lists st)) (cnt-self p (m ++ lists st)) none)) (λ r. origin-below d r) (rw i (mark-apart p x m (omega arith) d w once)))
 
 -- ---- links
 
@@ -264,13 +306,13 @@ with-lq v lq = record { ln = v .ln; lq = lq; next = v .next; head = v .head; tai
 pub taken-off : {top q n k : ℕ} {v : View} {fr : ℕ → Frame} {st : Stack} → n ≤ top → 1 ≤ q → Pile top q v fr n st true → Highest (v .lq) q k n → Listed k st
     → Pile top q (with-lq v (put (v .lq) k 0)) fr n st false
 taken-off {q = q} {k = k} {v = v} c q≥ (upon {l = l} a o e (is-loose {st = st} z t) d) h s =
-  let s′ = highest-lower st z h s in
-  let other = put-other (v .lq) k 0 l (λ i. z (rw (sym i) at (h .registered))) in
-  upon′ a o e (is-loose (rw other z) t) (taken-off (omega arith) q≥ d (lower-highest (listed-below d s′) a h) s′)
+    let s′ = highest-lower st z h s in
+    let other = put-other (v .lq) k 0 l (λ i. z (rw (sym i) at (h .registered))) in
+    upon′ a o e (is-loose (rw other z) t) (taken-off (omega arith) q≥ d (lower-highest (listed-below d s′) a h) s′)
 taken-off {top} {q} {k = k} {v = v} {fr = fr} c q≥ (upon {l = l} a o e (is-done {st = st} z i t) d) h s =
-  let k= = highest-top a z h d s in
-  let off : put (v .lq) k 0 l ≢ q = rw (sym k=) (rw (put-same (v .lq) k 0) (omega arith)) in
-  upon′ a o e (is-loose off e28-off)
+    let k= = highest-top a z h d s in
+    let off : put (v .lq) k 0 l ≢ q = rw (sym k=) (rw (put-same (v .lq) k 0) (omega arith)) in
+    upon′ a o e (is-loose off e28-off)
     (keep-all v (with-lq v (put (v .lq) k 0)) fr fr l (lists st ++ flight st) (omega arith) (λ j m. refl) (λ j m. refl)
-      (λ j m. put-other (v .lq) k 0 j (omega arith)) (λ y m. refl) (λ j m n. the-same refl [] (sym (append-nil (v .settled))) (λ y r. refl))
-      (omega arith) (λ y. simp counts (omega arith)) (λ r. refl) d)
+    (λ j m. put-other (v .lq) k 0 j (omega arith)) (λ y m. refl) (λ j m n. the-same refl [] (sym (append-nil (v .settled))) (λ y r. refl))
+    (omega arith) (λ y. simp counts (omega arith)) (λ r. refl) d)

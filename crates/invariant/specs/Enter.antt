@@ -38,7 +38,7 @@ module _ (T : Turn) where
   pub e1-ok : Case T E1
   unfolding row
   e1-ok at S x _ b _ (is-loose z (e1 h)) d s =
-    to T E2 (loose (f .node .0 ∷ []) []) refl refl refl (is-loose z (e2 h (put-same (M .ln) l (f .node .0)))) (below-ln T d (f .node .0)) s
+      to T E2 (loose (f .node .0 ∷ []) []) refl refl refl (is-loose z (e2 h (put-same (M .ln) l (f .node .0)))) (below-ln T d (f .node .0)) s
 
   pub e2-ok : Case T E2
   unfolding row belowKTo
@@ -48,15 +48,19 @@ module _ (T : Turn) where
     where
       lq= : put (M .lq) l (f .queue .0) l ≡ q
       lq= = put-same (M .lq) l (f .queue .0) ∙ T .here .queued
+
       alone : Stand top own (M .next) (M .head q) (M .tail q) S (f .node .0 ∷ []) (push l (owner (f .node .0) x) st)
-      alone = record { hot = record { more = []; begins = refl; linked = link refl (stop h); alone = λ a c. refl }; settled = s .settled
-        ; all = λ y. simp counts (omega (arith, simp counts at (s .all y))) }
+      alone = record {
+        hot = record { more = []; begins = refl; linked = link refl (stop h); alone = λ a c. refl };
+        settled = s .settled;
+        all = λ y. simp counts (omega (arith, simp counts at (s .all y)));
+      }
 
   pub e3-ok : Case T E3
   unfolding row belowKTo
   e3-ok at S x _ b _ (is-owner z n t (e3 k h)) d s = by-eq T
-    (λ e. to T E4 (owner (f .node .0) _) refl refl refl (is-owner z n t (e4 (record { below = k; registered = e ∙ T .here .queued; free = h }))) d s)
-    (λ e. let off : M .lq (f .k .0) ≢ q = rw (T .here .queued) at e in by-eq T
+      (λ e. to T E4 (owner (f .node .0) _) refl refl refl (is-owner z n t (e4 (record { below = k; registered = e ∙ T .here .queued; free = h }))) d s)
+      (λ e. let off : M .lq (f .k .0) ≢ q = rw (T .here .queued) at e in by-eq T
       (λ i. to T E7 (owner (f .node .0) _) refl refl refl (is-owner z n t (e7 (λ j m. free-down off h j (omega arith) m))) d s)
       (λ i. to T E3 (owner (f .node .0) _) refl refl refl (is-owner z n t (e3 (omega arith) (λ j a c. free-down off h j (omega arith) c))) d s))
 
@@ -71,16 +75,20 @@ module _ (T : Turn) where
     where
       k : ℕ
       k = f .k .0
+
       o : ℕ
       o = origin top st
+
       Next : Type 0
       Next = Ok T own (frontOf q M S (push l (owner (f .node .0) y) st)) [] (memAfter M (row E5 f (level l) (level top))) (then M (row E5 f (level l) (level top)) f)
+
       -- E13 or E15, the search
       search : (d : Pile top q (view q M S) fr l st false) → (k ≡ 0 → Aim top o (start (M .tail q) st) (follow st) (f .p .0) (o ≡ top)) → (k ≢ 0 → Aim top o (start (M .tail q) st) (follow st) (f .p .0) (NotPast top o (k - 1))) → f .p .0 ≢ M .tail q → Next
       search d a c ne = by-eq T (λ i. absurd (ne (sym (rw (T .here .queued) at i))))
-        (λ i. by-eq T
+          (λ i. by-eq T
           (λ j. to T E15 (owner (f .node .0) y) refl refl refl (is-owner z n t (e15 refl (a j))) d s)
           (λ j. to T E13 (owner (f .node .0) y) refl refl refl (is-owner z n t (e13 refl (c j) (omega (arith, h .below)))) d s))
+
       by : (b : Bool) (d : Pile top q (view q M S) fr l st b) → Shown top (M .tail q) o (start (M .tail q) st) (follow st) k (M .ln k) b → Next
       by _ d (at-owner a r i ne) = search d (λ j. behind a r (e ∙ i)) (λ j. behind a r (e ∙ i)) (λ j. ne (sym e ∙ j))
       by _ d (at-mark i ne a tl) = search d (λ j. before (e ∙ i) (λ w. ne (sym e ∙ w)) (own-chain j)) (λ j. before (e ∙ i) (λ w. ne (sym e ∙ w)) (λ r. omega (arith, a r))) (λ j. tl (sym e ∙ j))
@@ -98,8 +106,8 @@ module _ (T : Turn) where
   e6-ok at S x _ b _ (is-owner {x = y} z n t (e6 h e)) d s =
       let d′ = taken-off (omega (arith, T .below)) (T .queued) (rw e at d) h (T .listed (f .k .0) (h .below) (h .registered)) in
       by-eq T
-        (λ i. to T E7 (owner (f .node .0) y) refl refl refl (is-owner lq= n t (e7 (λ j m. free-put (M .lq) (T .queued) (h .free) j (omega arith) m))) d′ s)
-        (λ i. to T E3 (owner (f .node .0) y) refl refl refl (is-owner lq= n t (e3 (omega (arith, h .below)) (λ j a c. free-put (M .lq) (T .queued) (h .free) j (omega arith) c))) d′ s)
+      (λ i. to T E7 (owner (f .node .0) y) refl refl refl (is-owner lq= n t (e7 (λ j m. free-put (M .lq) (T .queued) (h .free) j (omega arith) m))) d′ s)
+      (λ i. to T E3 (owner (f .node .0) y) refl refl refl (is-owner lq= n t (e3 (omega (arith, h .below)) (λ j a c. free-put (M .lq) (T .queued) (h .free) j (omega arith) c))) d′ s)
     where
       lq= : put (M .lq) (f .k .0) 0 l ≡ q
       lq= = put-other (M .lq) (f .k .0) 0 l (omega (arith, h .below)) ∙ z

@@ -136,16 +136,16 @@ module _ (top q : ℕ) (v : View) where
   -- the two tests: whether the highest registered level is one whose work is done, below this one and with it
   pub data Here (l : ℕ) : Point → Regs → Item → Stack → Bool → Bool → Type 0 where
     is-loose : {p : Point} {g : Regs} {ins outs : List ℕ} {st : Stack} {b : Bool}
-      → v .lq l ≢ q → Loose q (v .next) (v .ln l) (v .head) (v .settled) p g ins outs → Here l p g (loose ins outs) st b b
+        → v .lq l ≢ q → Loose q (v .next) (v .ln l) (v .head) (v .settled) p g ins outs → Here l p g (loose ins outs) st b b
     -- tail is the node that its level shows: all that is left is to take itself off
     is-done : {g : Regs} {st : Stack}
-      → v .lq l ≡ q → v .ln l ≡ v .tail → origin top st ≡ top → Here l E28 g (loose [] []) st false true
+        → v .lq l ≡ q → v .ln l ≡ v .tail → origin top st ≡ top → Here l E28 g (loose [] []) st false true
     is-owner : {p : Point} {g : Regs} {x : List ℕ} {st : Stack} {b : Bool}
-      → v .lq l ≡ q → v .ln l ≡ g .n → Hot top (v .next) (origin top st) (start (v .tail) st) (follow st) x
-      → Unlinked top q l (v .ln) (v .lq) (v .next) (v .tail) (origin top st) (start (v .tail) st) (follow st) x (lists st) b p g
-      → Here l p g (owner (g .n) x) st b false
+        → v .lq l ≡ q → v .ln l ≡ g .n → Hot top (v .next) (origin top st) (start (v .tail) st) (follow st) x
+        → Unlinked top q l (v .ln) (v .lq) (v .next) (v .tail) (origin top st) (start (v .tail) st) (follow st) x (lists st) b p g
+        → Here l p g (owner (g .n) x) st b false
     is-mark : {p : Point} {g : Regs} {s : ℕ} {w : List ℕ} {st : Stack}
-      → v .lq l ≡ q → v .ln l ≡ s → Linked top (v .next) (v .tail) (origin top st) (follow st) s w p g → Here l p g (mark s w) st false false
+        → v .lq l ≡ q → v .ln l ≡ s → Linked top (v .next) (v .tail) (origin top st) (follow st) s w p g → Here l p g (mark s w) st false false
 
 -- a frame on the queue
 pub record Works (q : ℕ) (f : Frame) : Type 0 where
@@ -157,4 +157,4 @@ pub record Works (q : ℕ) (f : Frame) : Type 0 where
 pub data Pile (top q : ℕ) (v : View) (fr : ℕ → Frame) : ℕ → Stack → Bool → Type 0 where
   bottom : {n : ℕ} → Pile top q v fr n floor false
   upon : {n l : ℕ} {p : Point} {i : Item} {st : Stack} {b b′ : Bool}
-    → l < n → Works q (fr l) → pointOf (fr l .point) ≡ p → Here top q v l p (regs (fr l)) i st b b′ → Pile top q v fr l st b → Pile top q v fr n (push l i st) b′
+      → l < n → Works q (fr l) → pointOf (fr l .point) ≡ p → Here top q v l p (regs (fr l)) i st b b′ → Pile top q v fr l st b → Pile top q v fr n (push l i st) b′

@@ -11,9 +11,69 @@ use Rattle.lists.specs.Count.{cnt, cnt-append, cnt-cons, cnt-nil, eqb-self, cnt
 use Rattle.table.specs.Points.{Point, pointOf}
 use Rattle.chains.specs.Seg.{Seg, seg-same}
 use Rattle.invariant.specs.Ghost.{Item, loose, owner, mark, Stack, floor, push, lists, flight, follow, origin, start}
-use Rattle.invariant.specs.Facts.{Regs, regs, View, Hot, Loose, e1, e2, e28-off, e29, d1, d2, d3, d4, d5, d6, d7, Free, Highest, Aim, behind, before, NotPast, Walking,
-  Unlinked, e3, e4, e5, e6, e7, e8, e9, e13, e14, e15, e16, e17, e18, e21, e22, Cut, Linked, e10, e11, e12, e19, e20, e23, e24, e25, e26, e27, e28,
-  Here, is-loose, is-done, is-owner, is-mark, Works, Pile, bottom, upon}
+use Rattle.invariant.specs.Facts.{
+  Regs,
+  regs,
+  View,
+  Hot,
+  Loose,
+  e1,
+  e2,
+  e28-off,
+  e29,
+  d1,
+  d2,
+  d3,
+  d4,
+  d5,
+  d6,
+  d7,
+  Free,
+  Highest,
+  Aim,
+  behind,
+  before,
+  NotPast,
+  Walking,
+  Unlinked,
+  e3,
+  e4,
+  e5,
+  e6,
+  e7,
+  e8,
+  e9,
+  e13,
+  e14,
+  e15,
+  e16,
+  e17,
+  e18,
+  e21,
+  e22,
+  Cut,
+  Linked,
+  e10,
+  e11,
+  e12,
+  e19,
+  e20,
+  e23,
+  e24,
+  e25,
+  e26,
+  e27,
+  e28,
+  Here,
+  is-loose,
+  is-done,
+  is-owner,
+  is-mark,
+  Works,
+  Pile,
+  bottom,
+  upon,
+}
 
 -- a function reads the goal before its arguments, a constructor does not
 pub upon′ : {top q : ℕ} {v : View} {fr : ℕ → Frame} {n l : ℕ} {p : Point} {i : Item} {st : Stack} {b b′ : Bool}
@@ -86,9 +146,13 @@ keep-unlinked w next= tail= o (e22 s e z h r) = e22 s e z h r
 -- ---- a frame that is linked in
 
 abbrev keep-cut : {next next′ : ℕ → ℕ} {p r t : ℕ} {w : List ℕ} → ((y : ℕ) → 0 < cnt y (p ∷ w) → next′ y ≡ next y) → Cut next p w r t → Cut next′ p w r t
-keep-cut next= u = record { block = u .block; rest = u .rest; whole = u .whole
-  ; ends = seg-same (λ y (h : 0 < cnt y (_ ∷ u .block)). next= y (rw (u .whole) (simp counts (omega (arith, simp counts at h))))) (u .ends)
-  ; hangs = seg-same (λ y (h : 0 < cnt y (u .rest)). next= y (rw (u .whole) (simp counts (omega arith)))) (u .hangs) }
+keep-cut next= u = record {
+  block = u .block;
+  rest = u .rest;
+  whole = u .whole;
+  ends = seg-same (λ y (h : 0 < cnt y (_ ∷ u .block)). next= y (rw (u .whole) (simp counts (omega (arith, simp counts at h))))) (u .ends);
+  hangs = seg-same (λ y (h : 0 < cnt y (u .rest)). next= y (rw (u .whole) (simp counts (omega arith)))) (u .hangs);
+}
 
 keep-linked : {top : ℕ} {next next′ : ℕ → ℕ} {tail tail′ o t p : ℕ} {w : List ℕ} {i : Point} {g : Regs}
     → ((y : ℕ) → 0 < cnt y (p ∷ w) → next′ y ≡ next y) → (o ≢ top → tail′ ≡ tail) → Linked top next tail o t p w i g → Linked top next′ tail′ o t p w i g
@@ -129,23 +193,23 @@ module _ {top q : ℕ} (v v′ : View) (fr fr′ : ℕ → Frame) (l : ℕ) (Z :
       → ((y : ℕ) → cnt y (lists (push j i st)) + cnt y (flight (push j i st)) ≤ cnt y Z) → ((b′ ≡ true) ⊎ (origin top (push j i st) ≢ top) → v′ .tail ≡ v .tail)
       → Here top q v j p (regs (fr j)) i st b b′ → Here top q v′ j p (regs (fr j)) i st b b′
   keep-here {j} h o sub tail= (is-loose {ins = ins} {outs = outs} z t) =
-    is-loose (levels .stays-off j h z) (keep-loose (ln= j h o) (λ y (m : 0 < cnt y ins). next= y (omega (arith, simp counts at (sub y)))) (fetches j h o) t)
+      is-loose (levels .stays-off j h z) (keep-loose (ln= j h o) (λ y (m : 0 < cnt y ins). next= y (omega (arith, simp counts at (sub y)))) (fetches j h o) t)
   keep-here {j} h o sub tail= (is-done z e r) = is-done (levels .stays j h z) (ln= j h o ∙ e ∙ sym (tail= (inl refl))) r
   keep-here {j} h o sub tail= (is-owner {x = x} z e t u) =
-    let tl = tail= (inr (λ (c : j ≡ top). omega arith)) in
-    let nx : (y : ℕ) → 0 < cnt y x → v′ .next y ≡ v .next y = λ y m. next= y (omega (arith, simp counts at (sub y))) in
-    let lower : Steady q j (v .ln) (v′ .ln) (v .lq) (v′ .lq) = record
-          { shows = λ k i. levels .shows k (omega arith); stays = λ k i. levels .stays k (omega arith); stays-off = λ k i. levels .stays-off k (omega arith) } in
-    is-owner (levels .stays j h z) (ln= j h o ∙ e) (rw (sym tl) at (keep-hot nx t)) (rw (sym tl) at (keep-unlinked lower nx refl t u))
+      let tl = tail= (inr (λ (c : j ≡ top). omega arith)) in
+      let nx : (y : ℕ) → 0 < cnt y x → v′ .next y ≡ v .next y = λ y m. next= y (omega (arith, simp counts at (sub y))) in
+      let lower : Steady q j (v .ln) (v′ .ln) (v .lq) (v′ .lq) = record
+      { shows = λ k i. levels .shows k (omega arith); stays = λ k i. levels .stays k (omega arith); stays-off = λ k i. levels .stays-off k (omega arith) } in
+      is-owner (levels .stays j h z) (ln= j h o ∙ e) (rw (sym tl) at (keep-hot nx t)) (rw (sym tl) at (keep-unlinked lower nx refl t u))
   keep-here {j} h o sub tail= (is-mark {s = s} {w = w} z e t) =
-    is-mark (levels .stays j h z) (ln= j h o ∙ e) (keep-linked (λ y (m : 0 < cnt y (s ∷ w)). next= y (omega (arith, simp counts at (sub y), simp counts at m))) (λ r. tail= (inr r)) t)
+      is-mark (levels .stays j h z) (ln= j h o ∙ e) (keep-linked (λ y (m : 0 < cnt y (s ∷ w)). next= y (omega (arith, simp counts at (sub y), simp counts at m))) (λ r. tail= (inr r)) t)
 
   pub keep : {n : ℕ} {st : Stack} {b : Bool} → n ≤ l → ((y : ℕ) → cnt y (lists st) + cnt y (flight st) ≤ cnt y Z) → ((b ≡ true) ⊎ (origin top st ≢ top) → v′ .tail ≡ v .tail)
       → Pile top q v fr n st b → Pile top q v′ fr′ n st b
   keep h sub tail= bottom = bottom
   keep h sub tail= (upon {l = j} {i = i} {st = st} a o e t d) =
-    let j< : j < l = omega arith in
-    upon′ a (rw (fr= j j< o) o) (ap (λ f. pointOf (f .point)) (fr= j j< o) ∙ e) (rw (fr= j j< o) (keep-here j< o sub tail= t))
+      let j< : j < l = omega arith in
+      upon′ a (rw (fr= j j< o) o) (ap (λ f. pointOf (f .point)) (fr= j j< o) ∙ e) (rw (fr= j j< o) (keep-here j< o sub tail= t))
       (keep (omega arith) (λ y. omega (arith, sub y, below-item j i st y)) (λ r. tail= (below-tail (omega arith) t r)) d)
 
 -- the same where no word of a lower level moves
@@ -155,4 +219,4 @@ pub keep-all : {top q n : ℕ} {st : Stack} {b : Bool} (v v′ : View) (fr fr′
     → n ≤ l → ((y : ℕ) → cnt y (lists st) + cnt y (flight st) ≤ cnt y Z) → ((b ≡ true) ⊎ (origin top st ≢ top) → v′ .tail ≡ v .tail)
     → Pile top q v fr n st b → Pile top q v′ fr′ n st b
 keep-all v v′ fr fr′ l Z a fr= ln= lq= next= fetches b c d e = keep v v′ fr fr′ l Z a (λ j m w. fr= j m) (λ j m w. ln= j m)
-  (record { shows = λ j m r. ln= j m; stays = λ j m r. lq= j m ∙ r; stays-off = λ j m r. rw (lq= j m) r }) next= fetches b c d e
+    (record { shows = λ j m r. ln= j m; stays = λ j m r. lq= j m ∙ r; stays-off = λ j m r. rw (lq= j m) r }) next= fetches b c d e

@@ -48,8 +48,8 @@ module _ (T : Turn) where
   pub e29-ok : Case T E29
   unfolding row
   e29-ok at S x _ b _ (is-loose z e29) d s = by-eq T
-    (λ i. has-ended z (below-ln T d 0) (bare s) (begins-same _))
-    (λ i. to T D1 (loose [] []) refl refl refl (is-loose z (d1 (omega (arith, T .here)))) (below-ln T d 0) s)
+      (λ i. has-ended z (below-ln T d 0) (bare s) (begins-same _))
+      (λ i. to T D1 (loose [] []) refl refl refl (is-loose z (d1 (omega (arith, T .here)))) (below-ln T d 0) s)
 
   -- ---- a dequeue
 
@@ -65,8 +65,8 @@ module _ (T : Turn) where
   pub d2-ok : Case T D2
   unfolding row
   d2-ok at S x _ b _ (is-loose z (d2 o e)) d s = by-eq T
-    (λ i. has-ended z d (bare s) (begins-same _))
-    (λ i. let r = first-settled (s .settled) (λ j. i (ap (M .tail) (T .here .queued) ∙ sym j ∙ sym e)) in
+      (λ i. has-ended z d (bare s) (begins-same _))
+      (λ i. let r = first-settled (s .settled) (λ j. i (ap (M .tail) (T .here .queued) ∙ sym j ∙ sym e)) in
       to T D3 (loose [] []) refl refl refl (is-loose z (d3 o (r .1 ∙ ap (λ y. y ∷ r .0) (sym e)))) d s)
 
   -- tail is a node
@@ -98,14 +98,17 @@ module _ (T : Turn) where
       (s : StandIn top q own M S x (push l (loose [] []) st)) where
     pile : Pile top q (view q (upd M (Head (f .queue)) (f .r .0)) R) fr l st b
     pile = keep-all (view q M S) (view q (upd M (Head (f .queue)) (f .r .0)) R) fr fr l (lists st ++ flight st) (omega (arith, T .below)) (λ j m. refl) (λ j m. refl) (λ j m. refl) (λ y m. refl)
-      (λ j m n. no-dequeue (T .alone o j m n)) (omega arith) (λ y. simp counts (omega arith)) (λ k. refl) d
+        (λ j m n. no-dequeue (T .alone o j m n)) (omega arith) (λ y. simp counts (omega arith)) (λ k. refl) d
 
     head= : put (M .head) (f .queue .0) (f .r .0) q ≡ M .next (f .c .0)
     head= = rw (T .here .queued) (put-same (M .head) q (f .r .0)) ∙ r
 
     taken : (ins outs : List ℕ) → ((y : ℕ) → cnt y ins + cnt y outs ≡ cnt y (f .c .0 ∷ [])) → StandIn top q own (upd M (Head (f .queue)) (f .r .0)) R x (push l (loose ins outs) st)
-    taken ins outs h = record { hot = s .hot; settled = rw head= (seg-rest (rw e at (s .settled)))
-      ; all = λ y. simp counts (omega (arith, simp (e, counts) at (s .all y), simp counts at (h y))) }
+    taken ins outs h = record {
+      hot = s .hot;
+      settled = rw head= (seg-rest (rw e at (s .settled)));
+      all = λ y. simp counts (omega (arith, simp (e, counts) at (s .all y), simp counts at (h y)));
+    }
 
     none-out : leaving st ≡ []
     none-out = none-leaving d (T .alone o)
@@ -117,9 +120,9 @@ module _ (T : Turn) where
   pub d5-ok : Case T D5
   unfolding row
   d5-ok at S x _ b _ (is-loose z (d5 {S′ = R} o e r)) d s = by-eq T
-    (λ i. goes-on (point-is D6 36 refl) refl refl (is-loose z (d6 o (i ∙ T .here .queued))) (pile o e r d s) (taken o e r d s (f .c .0 ∷ []) [] (λ y. omega (arith, cnt-nil y)))
+      (λ i. goes-on (point-is D6 36 refl) refl refl (is-loose z (d6 o (i ∙ T .here .queued))) (pile o e r d s) (taken o e r d s (f .c .0 ∷ []) [] (λ y. omega (arith, cnt-nil y)))
       (front-then o e r d s [] (rw (i ∙ T .here .queued) (without-self q (R ++ M .tail q ∷ [])))))
-    (λ i. goes-on (point-is D7 37 refl) refl refl (is-loose z (d7 o (λ j. i (j ∙ sym (T .here .queued))))) (pile o e r d s) (taken o e r d s [] (f .c .0 ∷ []) (λ y. omega (arith, cnt-nil y)))
+      (λ i. goes-on (point-is D7 37 refl) refl refl (is-loose z (d7 o (λ j. i (j ∙ sym (T .here .queued))))) (pile o e r d s) (taken o e r d s [] (f .c .0 ∷ []) (λ y. omega (arith, cnt-nil y)))
       (front-then o e r d s (f .c .0 ∷ []) refl))
 
   -- a node in flight gets next 0: nothing of the lists moves
@@ -131,21 +134,24 @@ module _ (T : Turn) where
     pile-0 = below-next T d (f .c .0) 0 (omega (arith, c-once))
 
     stand-0 : StandIn top q own (upd M (Next (f .c)) 0) S x (push l (loose ins outs) st)
-    stand-0 = record
-      { hot = keep-hot (λ y (m : 0 < cnt y x). put-other (M .next) (f .c .0) 0 y (λ i. let j : cnt y x ≡ 0 = rw i (omega (arith, c-once)) in omega arith)) (s .hot)
-      ; settled = seg-put (f .c .0) 0 (omega (arith, c-once)) (s .settled)
-      ; all = s .all }
+    stand-0 = record {
+      hot = keep-hot (λ y (m : 0 < cnt y x). put-other (M .next) (f .c .0) 0 y (λ i. let j : cnt y x ≡ 0 = rw i (omega (arith, c-once)) in omega arith)) (s .hot);
+      settled = seg-put (f .c .0) 0 (omega (arith, c-once)) (s .settled);
+      all = s .all;
+    }
 
   pub d6-ok : Case T D6
   unfolding row
   d6-ok at S x _ b _ (is-loose z (d6 o e)) d s =
       to T E1 (loose (f .queue .0 ∷ []) []) refl refl refl (is-loose z (e1 (rw (sym c=) (put-same (M .next) (f .c .0) 0)))) (pile-0 in-flight d s)
-        (record { hot = t .hot; settled = t .settled; all = λ y. rw (sym c=) (t .all y) })
+      (record { hot = t .hot; settled = t .settled; all = λ y. rw (sym c=) (t .all y) })
     where
       c= : f .c .0 ≡ f .queue .0
       c= = e ∙ sym (T .here .queued)
+
       in-flight : 0 < cnt (f .c .0) (f .c .0 ∷ []) + cnt (f .c .0) []
       in-flight = simp counts (omega arith)
+
       t : StandIn top q own (upd M (Next (f .c)) 0) S x (push l (loose (f .c .0 ∷ []) []) st)
       t = stand-0 in-flight d s
 
@@ -160,9 +166,10 @@ module _ (T : Turn) where
   unfolding row
   d7-ok own′ less at S x _ b _ (is-loose z (d7 o e)) d s =
       has-ended z (pile-0 in-flight d s) (record { hot = t .hot; settled = t .settled; all = λ y. omega (arith, simp counts at (t .all y), simp counts at (less y)) })
-        (rw (without-other (f .c .0) (leaving st ++ (S ++ M .tail q ∷ [])) e) (begins-same _))
+      (rw (without-other (f .c .0) (leaving st ++ (S ++ M .tail q ∷ [])) e) (begins-same _))
     where
       in-flight : 0 < cnt (f .c .0) [] + cnt (f .c .0) (f .c .0 ∷ [])
       in-flight = simp counts (omega arith)
+
       t : StandIn top q own (upd M (Next (f .c)) 0) S x (push l (loose [] (f .c .0 ∷ [])) st)
       t = stand-0 in-flight d s

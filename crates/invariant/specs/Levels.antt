@@ -25,7 +25,7 @@ each fr l P g h k j = by (eqb j l) (same? j l)
 -- a pile reads only the frames of its levels
 pub same-frames : {top q l : ℕ} {v : View} {st : Stack} {b : Bool} (fr : ℕ → Frame) (g : Frame) → l ≤ top → Pile top q v fr l st b → Pile top q v (put fr l g) l st b
 same-frames {l = l} {v = v} {st = st} fr g h d =
-  keep-all v v fr (put fr l g) l (lists st ++ flight st) h (λ j m. put-other fr l g j (omega arith)) (λ j m. refl) (λ j m. refl) (λ y m. refl)
+    keep-all v v fr (put fr l g) l (lists st ++ flight st) h (λ j m. put-other fr l g j (omega arith)) (λ j m. refl) (λ j m. refl) (λ y m. refl)
     (λ j m n. the-same refl [] (sym (append-nil (v .settled))) (λ y r. refl)) (omega arith) (λ y. simp counts (omega arith)) (λ r. refl) d
 
 -- and stands below every higher level

@@ -86,5 +86,5 @@ own-begun Q uses q n a b h x = by (eqb x n) (same? x n)
   where
     by : (t : Bool) → Same x n t → own Q (put uses n q) q x ≡ cnt x (n ∷ []) + own Q uses q x
     by true (same e) = rw e (let k : own Q (put uses n q) q n ≡ 1 = rw (own-at Q (put uses n q) q n b, put-same uses n q, eqb-self q) in
-      let j : own Q uses q n ≡ 0 = rw (own-at Q uses q n b, h, ne-eqb 0 q (omega arith)) in simp counts (omega arith))
+        let j : own Q uses q n ≡ 0 = rw (own-at Q uses q n b, h, ne-eqb 0 q (omega arith)) in simp counts (omega arith))
     by false (apart e) = rw (own-other Q uses q n q x e) (rw (cnt-cons, ne-eqb x n e) (omega (arith, cnt-nil x)))

@@ -55,23 +55,34 @@ module _ (T : Turn) where
     where
       w : List ℕ
       w = s .hot .more
+
       chain : Seg (M .next) n (n ∷ w) 0
       chain = rw (s .hot .begins) at (s .hot .linked)
+
       -- c stands once, in the hot list below
       c-once : cnt c S + (cnt c (n ∷ w) + (cnt c pre + (cnt c rest + (cnt c (lists st) + cnt c (flight st))))) ≡ 0
       c-once = rw (sym (s .hot .begins)) (omega (arith, simp (e, counts) at (s .all c), T .once c))
+
       n-some : n ≢ 0
       n-some = differ (n ∷ w) (cnt-self n w) (rw (sym (s .hot .begins)) (omega (arith, s .all 0, T .none)))
+
       two : (m : ℕ) × Seg (M .next) (start (M .tail q) st) pre m × Seg (M .next) m (c ∷ rest) (follow st)
       two = seg-split pre (rw e at (t .linked))
+
       begins : (m : List ℕ) × (pre ++ c ∷ [] ≡ start (M .tail q) st ∷ m)
       begins = begins-cut (start (M .tail q) st) c pre rest (t .more) (sym e ∙ t .begins)
+
       stand : StandIn top q own (upd M (Next (node c)) n) S (pre ++ c ∷ []) (push l (mark n (w ++ rest)) st)
-      stand = record
-        { hot = record { more = begins .0; begins = begins .1; alone = λ a z. absurd (n-some z)
-                       ; linked = seg-join (seg-put c n (omega (arith, c-once)) (two .1)) (link (seg-head (two .2)) (stop (put-same (M .next) c n))) }
-        ; settled = seg-put c n (omega (arith, c-once)) (s .settled)
-        ; all = λ z. simp counts (omega (arith, simp (e, counts) at (s .all z), simp counts at (ap (cnt z) (s .hot .begins)))) }
+      stand = record {
+        hot = record {
+          more = begins .0;
+          begins = begins .1;
+          alone = λ a z. absurd (n-some z);
+          linked = seg-join (seg-put c n (omega (arith, c-once)) (two .1)) (link (seg-head (two .2)) (stop (put-same (M .next) c n)));
+        };
+        settled = seg-put c n (omega (arith, c-once)) (s .settled);
+        all = λ z. simp counts (omega (arith, simp (e, counts) at (s .all z), simp counts at (ap (cnt z) (s .hot .begins))));
+      }
 
   -- the cut of the piece p ∷ w behind c is closed with r, on which the rest hangs
   pub record Closed (S x : List ℕ) (b : Bool) (p c r : ℕ) (w : List ℕ) : Type 0 where
@@ -81,16 +92,19 @@ module _ (T : Turn) where
 
   pub close : {b : Bool} {S x w : List ℕ} {p r : ℕ} (c : ℕ) (u : Cut (M .next) p w r (follow st)) → Last c (p ∷ u .block)
       → Pile top q (view q M S) fr l st b → StandIn top q own M S x (push l (mark p w) st) → Closed S x b p c r w
-  close {b} {S} {x} {w} {p} {r} c u e d s = record
-      { pile = below-next T d c r (omega (arith, c-once))
-      ; stand = record
-        { hot = record { more = s .hot .more; begins = s .hot .begins; alone = s .hot .alone; linked = seg-put c r (omega (arith, c-once)) (s .hot .linked) }
-        ; settled = seg-put c r (omega (arith, c-once)) (s .settled)
-        ; all = s .all }
-      ; whole = rw (u .whole) (seg-join (seg-turn-last c r e (omega (arith, c-once)) (u .ends)) (seg-put c r (omega (arith, c-once)) (u .hangs))) }
+  close {b} {S} {x} {w} {p} {r} c u e d s = record {
+    pile = below-next T d c r (omega (arith, c-once));
+    stand = record {
+      hot = record { more = s .hot .more; begins = s .hot .begins; alone = s .hot .alone; linked = seg-put c r (omega (arith, c-once)) (s .hot .linked) };
+      settled = seg-put c r (omega (arith, c-once)) (s .settled);
+      all = s .all;
+    };
+    whole = rw (u .whole) (seg-join (seg-turn-last c r e (omega (arith, c-once)) (u .ends)) (seg-put c r (omega (arith, c-once)) (u .hangs)));
+  }
     where
       in-block : 0 < cnt c (p ∷ u .block)
       in-block = rw (e .1) (simp counts (omega arith))
+
       c-once : (cnt c (p ∷ u .block) ≤ 1) × (cnt c S + (cnt c x + (cnt c (u .rest) + (cnt c (lists st) + cnt c (flight st)))) ≡ 0)
       c-once = let a = simp (u .whole, counts) at (s .all c) in let i = simp counts at in-block in simp counts (omega (arith, T .once c))
 
@@ -101,27 +115,32 @@ module _ (T : Turn) where
 
   pub move-on : {S x w : List ℕ} {p : ℕ} (c : ℕ) (pre post : List ℕ) → p ∷ w ≡ pre ++ c ∷ post → Seg (M .next) p (p ∷ w) (follow st)
       → StandIn top q own M S x (push l (mark p w) st) → Moved S (x ++ pre) c post
-  move-on {S} {x} {w} {p} c pre post e g s = record
-      { stand = record
-        { hot = record { more = s .hot .more ++ pre; begins = ap (λ y. y ++ pre) (s .hot .begins); alone = λ a z. absurd (c-some z); linked = seg-join (s .hot .linked) (rw m= at (two .1)) }
-        ; settled = s .settled
-        ; all = λ y. simp counts (omega (arith, simp counts at (s .all y), simp counts at (ap (cnt y) e))) }
-      ; piece = rw m= at (two .2) }
+  move-on {S} {x} {w} {p} c pre post e g s = record {
+    stand = record {
+      hot = record { more = s .hot .more ++ pre; begins = ap (λ y. y ++ pre) (s .hot .begins); alone = λ a z. absurd (c-some z); linked = seg-join (s .hot .linked) (rw m= at (two .1)) };
+      settled = s .settled;
+      all = λ y. simp counts (omega (arith, simp counts at (s .all y), simp counts at (ap (cnt y) e)));
+    };
+    piece = rw m= at (two .2);
+  }
     where
       two : (m : ℕ) × Seg (M .next) p pre m × Seg (M .next) m (c ∷ post) (follow st)
       two = seg-split pre (rw e at g)
+
       m= : two .0 ≡ c
       m= = seg-head (two .2)
+
       c-some : c ≢ 0
       c-some = differ (pre ++ c ∷ post) (simp counts (omega arith)) (rw (sym e) (simp counts (omega (arith, simp counts at (s .all 0), T .none))))
 
   -- a mark is taken off: its piece is hot
   pub take-off : {S x w : List ℕ} {p : ℕ} → (origin top st ≡ top → follow st ≢ 0) → Seg (M .next) p (p ∷ w) (follow st)
       → StandIn top q own M S x (push l (mark p w) st) → StandIn top q own M S (x ++ p ∷ w) (push l (loose [] []) st)
-  take-off {S} {x} {w} {p} h g s = record
-      { hot = record { more = s .hot .more ++ p ∷ w; begins = ap (λ y. y ++ p ∷ w) (s .hot .begins); alone = λ a z. absurd (h a z); linked = seg-join (s .hot .linked) g }
-      ; settled = s .settled
-      ; all = λ y. simp counts (omega (arith, simp counts at (s .all y))) }
+  take-off {S} {x} {w} {p} h g s = record {
+    hot = record { more = s .hot .more ++ p ∷ w; begins = ap (λ y. y ++ p ∷ w) (s .hot .begins); alone = λ a z. absurd (h a z); linked = seg-join (s .hot .linked) g };
+    settled = s .settled;
+    all = λ y. simp counts (omega (arith, simp counts at (s .all y)));
+  }
 
   -- tail moves to the mark p: the hot list is settled, and the piece is hot
   pub record Set (S x w : List ℕ) (p : ℕ) : Type 0 where
@@ -132,31 +151,40 @@ module _ (T : Turn) where
 
   pub settle : {S x w : List ℕ} {p : ℕ} → origin top st ≡ top → (follow st ≡ 0 → w ≡ []) → Seg (M .next) p (p ∷ w) (follow st)
       → Pile top q (view q M S) fr l st false → StandIn top q own M S x (push l (mark p w) st) → Set S x w p
-  settle {S} {x} {w} {p} h a g d s = record { tail-is = tail= ; pile = pile; stand = stand; begins = begins }
+  settle {S} {x} {w} {p} h a g d s = record { tail-is = tail=; pile = pile; stand = stand; begins = begins }
     where
       M′ : Mem
       M′ = upd M (Tail (f .queue)) p
+
       tail= : put (M .tail) (f .queue .0) p q ≡ p
       tail= = rw (T .here .queued) (put-same (M .tail) q p)
+
       pile : Pile top q (view q (upd M (Tail (f .queue)) p) (S ++ x)) fr l st false
       pile = keep-all (view q M S) (view q M′ (S ++ x)) fr fr l (lists st ++ flight st) (omega (arith, T .below)) (λ j m. refl) (λ j m. refl) (λ j m. refl) (λ y m. refl)
-        (λ j m n. the-same refl x refl (λ y r. refl)) (omega arith) (λ y. simp counts (omega arith)) (λ r. absurd (no r)) d
+          (λ j m n. the-same refl x refl (λ y r. refl)) (omega arith) (λ y. simp counts (omega arith)) (λ r. absurd (no r)) d
         where
           no : (false ≡ true) ⊎ (origin top st ≢ top) → ⊥
           no (inl e) = let c : _≡_ {A = ℕ} 0 1 = cc in omega arith
           no (inr e) = e h
+
       old : start (M .tail q) st ≡ M .tail q
       old = start-own (omega (arith, T .below)) d h
+
       new : start (M′ .tail q) st ≡ p
       new = start-own (omega (arith, T .below)) pile h ∙ tail=
+
       stand : StandIn top q own (upd M (Tail (f .queue)) p) (S ++ x) (p ∷ w) (push l (loose [] []) st)
-      stand = record
-        { hot = record { more = w; begins = ap (λ y. y ∷ w) (sym new); linked = rw new g; alone = λ r z. a z }
-        ; settled = rw tail= (seg-join (s .settled) (rw old at (s .hot .linked)))
-        ; all = λ y. simp counts (omega (arith, simp counts at (s .all y))) }
+      stand = record {
+        hot = record { more = w; begins = ap (λ y. y ∷ w) (sym new); linked = rw new g; alone = λ r z. a z };
+        settled = rw tail= (seg-join (s .settled) (rw old at (s .hot .linked)));
+        all = λ y. simp counts (omega (arith, simp counts at (s .all y)));
+      }
+
       x-is : x ≡ M .tail q ∷ s .hot .more
       x-is = s .hot .begins ∙ ap (λ y. y ∷ s .hot .more) old
+
       longer : (leaving st ++ (S ++ M .tail q ∷ [])) ++ (s .hot .more ++ p ∷ []) ≡ leaving st ++ ((S ++ x) ++ M′ .tail q ∷ [])
       longer = rw (tail=, x-is) (simp append-assoc)
+
       begins : Beginning (frontOf q M S (push l (mark p w) st)) (frontOf q (upd M (Tail (f .queue)) p) (S ++ x) (push l (loose [] []) st))
       begins = (without q (s .hot .more ++ p ∷ []), sym (without-append q (leaving st ++ (S ++ M .tail q ∷ [])) (s .hot .more ++ p ∷ [])) ∙ ap (without q) longer)

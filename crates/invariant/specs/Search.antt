@@ -62,9 +62,9 @@ module _ (T : Turn) where
     where
       above : M .lq (f .m .0) ≢ f .queue .0 → NotPast top (origin top st) (f .m .0) → origin top st ≢ top → origin top st < f .m .0
       above i h g =
-        let k = h g in
-        let ne : origin top st ≢ f .m .0 = λ j. i (ap (M .lq) (sym j) ∙ origin-registered d g ∙ sym (T .here .queued)) in
-        omega arith
+          let k = h g in
+          let ne : origin top st ≢ f .m .0 = λ j. i (ap (M .lq) (sym j) ∙ origin-registered d g ∙ sym (T .here .queued)) in
+          omega arith
 
   pub e14-ok : Case T E14
   unfolding row
@@ -73,11 +73,13 @@ module _ (T : Turn) where
     where
       live : 0 < cnt (M .ln (f .m .0)) (y ++ lists st)
       live = shows (f .m .0) y (omega (arith, T .below)) d (hot-start t) r (T .listed (f .m .0) m r)
+
       walking : NotPast top (origin top st) (f .m .0) → Walking top (origin top st) (f .m .0) (M .ln (f .m .0)) y
-      walking h = record
-        { here = λ j. rw (ap (M .ln) j ∙ start-owned d (λ k. omega (arith, T .below))) (hot-start t)
-        ; above = h
-        ; more = λ g k. omega (arith, T .below) }
+      walking h = record {
+        here = λ j. rw (ap (M .ln) j ∙ start-owned d (λ k. omega (arith, T .below))) (hot-start t);
+        above = h;
+        more = λ g k. omega (arith, T .below);
+      }
 
   pub e15-ok : Case T E15
   unfolding row
@@ -86,11 +88,14 @@ module _ (T : Turn) where
     where
       tail= : M .tail (f .queue .0) ≡ M .tail q
       tail= = ap (M .tail) (T .here .queued)
+
       in-hot : origin top st ≡ top → 0 < cnt (M .tail (f .queue .0)) y
       in-hot h = rw (tail= ∙ sym (start-own (omega (arith, T .below)) d h)) (hot-start t)
+
       live : (b : Bool) → Same (origin top st) top b → 0 < cnt (M .tail (f .queue .0)) (y ++ lists st)
       live true (same h) = simp counts (omega (arith, in-hot h))
       live false (apart h) = rw tail= (simp counts (omega (arith, tail-in (omega (arith, T .below)) d h)))
+
       walking : origin top st ≡ top → Walking top (origin top st) top (M .tail (f .queue .0)) y
       walking h = record { here = λ j. in-hot h; above = λ g. absurd (g h); more = λ g. absurd (g h) }
 
@@ -108,6 +113,7 @@ module _ (T : Turn) where
         hot : Walk (M .next) c (follow st) (start (M .tail q) st ∷ t .more) (t .more) → Onward c y (t .more)
         hot (on k) = in-hot k
         hot (out e k) = at-end e (rw (t .begins) k)
+
         by : (0 < cnt c y) ⊎ (0 < cnt c (lists st)) → Onward c y (t .more)
         by (inl k) = hot (walk c (rw (t .begins) at (t .linked)) (rw (t .begins) at k))
         by (inr k) = in-lists k (leads c d k)
@@ -119,17 +125,17 @@ module _ (T : Turn) where
     -- nothing leads to the first node of the chain
     to-first : (c : ℕ) → Onward c y (t .more) → follow st ≡ 0 → M .next c ≢ start (M .tail q) st
     to-first c (in-hot k) e i = let j : 0 < cnt (start (M .tail q) st) (t .more) = rw i at k in
-      omega (arith, once z n t d s (start (M .tail q) st), simp counts at (ap (cnt (start (M .tail q) st)) (t .begins)))
+        omega (arith, once z n t d s (start (M .tail q) st), simp counts at (ap (cnt (start (M .tail q) st)) (t .begins)))
     to-first c (at-end j k) e i = differ y (hot-start t) (omega (arith, none z n t d s)) (sym i ∙ j ∙ e)
     to-first c (in-lists j (inl k)) e i = differ y (hot-start t) (omega (arith, none z n t d s)) (sym i ∙ k)
     to-first c (in-lists j (inr k)) e i = let r : 0 < cnt (start (M .tail q) st) (inner st) = rw i at k in
-      omega (arith, once z n t d s (start (M .tail q) st), hot-start t, inner-lists st (start (M .tail q) st))
+        omega (arith, once z n t d s (start (M .tail q) st), hot-start t, inner-lists st (start (M .tail q) st))
 
     -- to the mark only the last of the hot list leads
     to-mark : (c : ℕ) → Onward c y (t .more) → follow st ≢ 0 → M .next c ≡ follow st → Last c y
     to-mark c (at-end j k) e i = k
     to-mark c (in-hot k) e i = let r : 0 < cnt (follow st) (t .more) = rw i at k in
-      absurd (omega (arith, once z n t d s (follow st), inner-follow st e, more-in (follow st)))
+        absurd (omega (arith, once z n t d s (follow st), inner-follow st e, more-in (follow st)))
     to-mark c (in-lists j (inl k)) e i = absurd (e (sym i ∙ k))
     to-mark c (in-lists j (inr k)) e i = let r : 0 < cnt (follow st) (inner st) = rw i at k in absurd (omega (arith, once z n t d s (follow st), inner-follow st e))
 
@@ -151,27 +157,34 @@ module _ (T : Turn) where
   e16-ok at S x _ b _ (is-owner {x = y} z n t (e16 e a m h)) d s = by-eq T
       (λ i. found i a)
       (λ i. by-eq T
-        (λ j. by-eq T
-          (λ k. to T E17 (owner (f .node .0) y) refl refl refl (is-owner z n t (e17 e (aim-map (λ p nz w. nowhere j k p nz w (eqb (origin top st) top) (same? (origin top st) top)) a))) d s)
-          (λ k. lower z n t d′ s (aim-map (λ p nz w g. above j p nz w g) a) (m k)))
-        (λ j. stay T E16 (owner (f .node .0) y) at refl refl (is-owner z n t (e16 e (aim-map (λ p nz w. onwards i p w) a) m (goes-live z n t d′ s c r j))) d s))
+      (λ j. by-eq T
+      (λ k. to T E17 (owner (f .node .0) y) refl refl refl (is-owner z n t (e17 e (aim-map (λ p nz w. nowhere j k p nz w (eqb (origin top st) top) (same? (origin top st) top)) a))) d s)
+      (λ k. lower z n t d′ s (aim-map (λ p nz w g. above j p nz w g) a) (m k)))
+      (λ j. stay T E16 (owner (f .node .0) y) at refl refl (is-owner z n t (e16 e (aim-map (λ p nz w. onwards i p w) a) m (goes-live z n t d′ s c r j))) d s))
     where
       c : ℕ
       c = f .c .0
+
       d′ : Pile top q (view q M S) fr l st false
       d′ = rw e at d
+
       r : Onward c y (t .more)
       r = onward z n t d′ s c h
+
       found : M .next c ≡ f .p .0 → Aim top (origin top st) (start (M .tail q) st) (follow st) (f .p .0) (Walking top (origin top st) (f .m .0) c y) → Then z n t d′ s (goTo 21 (setA c f))
       found i (behind o k p) = absurd (to-first z n t d′ s c r k (i ∙ p))
       found i (before p nz w) = to T E21 (owner (f .node .0) y) refl refl refl (is-owner z n t (e21 e p nz (to-mark z n t d′ s c r (λ k. nz (p ∙ k)) (i ∙ p)))) d s
+
       -- the walk from the chain's owner does not end before it has found p
       elsewhere : M .next c ≡ 0 → f .p .0 ≡ follow st → f .p .0 ≢ 0 → Walking top (origin top st) (f .m .0) c y → f .m .0 ≢ origin top st
       elsewhere j p nz w k = differ y (hot-goes z n t d′ s c r (w .here k) (λ i. nz (p ∙ sym i ∙ j))) (omega (arith, none z n t d′ s)) j
+
       nowhere : M .next c ≡ 0 → f .m .0 ≡ top → f .p .0 ≡ follow st → f .p .0 ≢ 0 → Walking top (origin top st) (f .m .0) c y → (b : Bool) → Same (origin top st) top b → ⊥
       nowhere j k p nz w true (same o) = elsewhere j p nz w (k ∙ sym o)
       nowhere j k p nz w false (apart o) = w .more o k
+
       above : M .next c ≡ 0 → f .p .0 ≡ follow st → f .p .0 ≢ 0 → Walking top (origin top st) (f .m .0) c y → origin top st ≢ top → origin top st < f .m .0
       above j p nz w g = let ne = elsewhere j p nz w in let k = w .above g in omega arith
+
       onwards : M .next c ≢ f .p .0 → f .p .0 ≡ follow st → Walking top (origin top st) (f .m .0) c y → Walking top (origin top st) (f .m .0) (M .next c) y
       onwards i p w = record { here = λ k. hot-goes z n t d′ s c r (w .here k) (λ j. i (j ∙ sym p)); above = w .above; more = w .more }

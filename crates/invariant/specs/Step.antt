@@ -43,9 +43,23 @@ module _ (s : Sizes) (q l : ℕ) (W : State) (st : Stack) (low : l < s .levels) 
     (alone : W .frames l .op ≡ 2 → (j : ℕ) → j < l → Works q (W .frames j) → W .frames j .op ≢ 2) where
   abbrev turn : Turn
   unfolding counted
-  turn = record { top = s .levels; q = q; own = own (s .queues) (W .mem .uses) q; fr = W .frames; l = l; st = st; M = W .mem; f = counted (W .frames l)
-    ; queued = q≥; below = low; here = record { busy = works .busy; known = works .known; queued = works .queued }
-    ; once = own-le (s .queues) (W .mem .uses) q; none = own-zero (s .queues) (W .mem .uses) q q≥; listed = listed; alone = alone }
+  turn = record {
+    top = s .levels;
+    q = q;
+    own = own (s .queues) (W .mem .uses) q;
+    fr = W .frames;
+    l = l;
+    st = st;
+    M = W .mem;
+    f = counted (W .frames l);
+    queued = q≥;
+    below = low;
+    here = record { busy = works .busy; known = works .known; queued = works .queued };
+    once = own-le (s .queues) (W .mem .uses) q;
+    none = own-zero (s .queues) (W .mem .uses) q q≥;
+    listed = listed;
+    alone = alone;
+  }
 
   abbrev rowAt : Point → Row
   rowAt p = row p (counted (W .frames l)) (level l) (level (s .levels))
@@ -55,9 +69,9 @@ module _ (s : Sizes) (q l : ℕ) (W : State) (st : Stack) (low : l < s .levels) 
       → StandIn (s .levels) q (own (s .queues) (W .mem .uses) q) (W .mem) S x (push l i st)
       → (y : ℕ) → own (s .queues) (W .mem .uses) q y ≡ cnt y (W .frames l .c .0 ∷ []) + own (s .queues) (put (W .mem .uses) (W .frames l .c .0) 0) q y
   one-less (is-loose z (d7 o e)) t =
-    let c = W .frames l .c .0 in
-    let mine : own (s .queues) (W .mem .uses) q c ≡ 1 = omega (arith, simp counts at (t .all c), own-le (s .queues) (W .mem .uses) q c) in
-    own-freed (s .queues) (W .mem .uses) q c q≥ (own-user (s .queues) (W .mem .uses) q c mine e) mine
+      let c = W .frames l .c .0 in
+      let mine : own (s .queues) (W .mem .uses) q c ≡ 1 = omega (arith, simp counts at (t .all c), own-le (s .queues) (W .mem .uses) q c) in
+      own-freed (s .queues) (W .mem .uses) q c q≥ (own-user (s .queues) (W .mem .uses) q c mine e) mine
 
   kept-at : (p : Point) → pointOf (W .frames l .point) ≡ p → (S x : List ℕ) (i : Item) (b b′ : Bool) → Here (s .levels) q (view q (W .mem) S) l p (regs (counted (W .frames l))) i st b b′
       → Pile (s .levels) q (view q (W .mem) S) (W .frames) l st b → StandIn (s .levels) q (own (s .queues) (W .mem .uses) q) (W .mem) S x (push l i st)
@@ -155,6 +169,7 @@ module _ (s : Sizes) (q l : ℕ) (W : State) (st : Stack) (low : l < s .levels) 
     where
       was : (j : ℕ) → On q (put (W .frames) l g j) → On q (W .frames j)
       was = each (W .frames) l (λ j f. On q f → On q (W .frames j)) g h (λ j n o. o)
+
       did : (j : ℕ) → On q (put (W .frames) l g j) → put (W .frames) l g j .op ≡ 2 → W .frames j .op ≡ 2
       did = each (W .frames) l (λ j f. On q f → f .op ≡ 2 → W .frames j .op ≡ 2) g k (λ j n o e. e)
 
@@ -163,25 +178,47 @@ module _ (s : Sizes) (q l : ℕ) (W : State) (st : Stack) (low : l < s .levels) 
 
   finish : (a : After) → Ok (turn s q l W st low q≥ works listed alone) (own (s .queues) (M′ .uses) q) front outs M′ a → Kept s q (record { mem = M′; frames = put (W .frames) l (frameAfter a) }) front outs
   unfolding counted
-  finish _ (goes-on {f′ = g} {S = S} {x = x} {i = i} {b′ = b} at op qu h d t e) = record { front′ = frontOf q M′ S (push l i st); begins = e; sound = record
-      { settled = S; hot = x; stack = push l i st; done = b
-      ; pile = upon′ low (rw (put-same (W .frames) l g) w) (ap (λ f. pointOf (f .point)) (put-same (W .frames) l g) ∙ at) (rw (put-same (W .frames) l g) h) (same-frames (W .frames) g (omega arith) d)
-      ; stand = t
-      ; listed = each (W .frames) l (λ j f. On q f → Listed j (push l i st)) g (λ o. inl refl) (λ j n o. on-stack j o)
-      ; registered = each (W .frames) l (λ j f. M′ .lq j ≡ q → On q f) g (λ r. ((λ (z : g .op ≡ 0). omega (arith, w)), w .queued)) (λ j n r. registered j r)
-      ; one = one-then g (λ o. on) (λ o k. sym op ∙ k)
-      ; nodes = nodes; low = q≥; high = q≤; front-is = refl } }
+  finish _ (goes-on {f′ = g} {S = S} {x = x} {i = i} {b′ = b} at op qu h d t e) = record {
+    front′ = frontOf q M′ S (push l i st);
+    begins = e;
+    sound = record {
+      settled = S;
+      hot = x;
+      stack = push l i st;
+      done = b;
+      pile = upon′ low (rw (put-same (W .frames) l g) w) (ap (λ f. pointOf (f .point)) (put-same (W .frames) l g) ∙ at) (rw (put-same (W .frames) l g) h) (same-frames (W .frames) g (omega arith) d);
+      stand = t;
+      listed = each (W .frames) l (λ j f. On q f → Listed j (push l i st)) g (λ o. inl refl) (λ j n o. on-stack j o);
+      registered = each (W .frames) l (λ j f. M′ .lq j ≡ q → On q f) g (λ r. ((λ (z : g .op ≡ 0). omega (arith, w)), w .queued)) (λ j n r. registered j r);
+      one = one-then g (λ o. on) (λ o k. sym op ∙ k);
+      nodes = nodes;
+      low = q≥;
+      high = q≤;
+      front-is = refl;
+    };
+  }
     where
       w : Works q g
       w = record { busy = rw op (works .busy); known = rw op (works .known); queued = qu ∙ works .queued }
-  finish _ (has-ended {S = S} {x = x} {b = b} z d t e) = record { front′ = frontOf q M′ S st; begins = e; sound = record
-      { settled = S; hot = x; stack = st; done = b
-      ; pile = raise (omega arith) (same-frames (W .frames) noFrame (omega arith) d)
-      ; stand = t
-      ; listed = each (W .frames) l (λ j f. On q f → Listed j st) noFrame (λ o. absurd (o .0 refl)) (λ j n o. listed-lower st n (on-stack j o))
-      ; registered = each (W .frames) l (λ j f. M′ .lq j ≡ q → On q f) noFrame (λ r. absurd (z r)) (λ j n r. registered j r)
-      ; one = one-then noFrame (λ o. absurd (o .0 refl)) (λ o. absurd (o .0 refl))
-      ; nodes = nodes; low = q≥; high = q≤; front-is = refl } }
+  finish _ (has-ended {S = S} {x = x} {b = b} z d t e) = record {
+    front′ = frontOf q M′ S st;
+    begins = e;
+    sound = record {
+      settled = S;
+      hot = x;
+      stack = st;
+      done = b;
+      pile = raise (omega arith) (same-frames (W .frames) noFrame (omega arith) d);
+      stand = t;
+      listed = each (W .frames) l (λ j f. On q f → Listed j st) noFrame (λ o. absurd (o .0 refl)) (λ j n o. listed-lower st n (on-stack j o));
+      registered = each (W .frames) l (λ j f. M′ .lq j ≡ q → On q f) noFrame (λ r. absurd (z r)) (λ j n r. registered j r);
+      one = one-then noFrame (λ o. absurd (o .0 refl)) (λ o. absurd (o .0 refl));
+      nodes = nodes;
+      low = q≥;
+      high = q≤;
+      front-is = refl;
+    };
+  }
 
 -- ---- the theorem
 
@@ -259,10 +296,13 @@ sound-step s q W front d l low o idle = by (d .stack) (d .done) (on-top l idle (
   where
     f : Frame
     f = W .frames l
+
     S : List ℕ
     S = d .settled
+
     r : Row
     r = rowOf (s .levels) l (W .frames l)
+
     by : (st : Stack) (b : Bool) → TopOf (s .levels) q (view q (W .mem) S) (W .frames) l st b → StandIn (s .levels) q (own (s .queues) (W .mem .uses) q) (W .mem) S (d .hot) st
         → ((j : ℕ) → On q (W .frames j) → Listed j st) → front ≡ frontOf q (W .mem) S st → Stepping s q W l front
     by _ _ (top-is {i = i} {st = st} works h p) t listed e =
@@ -270,19 +310,24 @@ sound-step s q W front d l low o idle = by (d .stack) (d .done) (on-top l idle (
       where
         below : (j : ℕ) → j < l → W .mem .lq j ≡ q → Listed j st
         below j m z = listed-lower st (omega arith) (listed j (d .registered j z))
+
         alone : f .op ≡ 2 → (j : ℕ) → j < l → Works q (W .frames j) → W .frames j .op ≢ 2
         alone op j m w z = let e = d .one l j o ((λ (y : W .frames j .op ≡ 0). omega (arith, w)), w .queued) op z in omega arith
+
         inside : Within s q W (rowOf (s .levels) l (W .frames l))
         inside = within s q l W st (counted f) low (d .low) (d .high) (works .queued) o (d .registered) (d .nodes) (pointOf (f .point)) h p t
+
         k : Kept s q (stepped (s .levels) l W) (frontOf q (W .mem) S (push l i st)) (outOf r)
         k = finish s q l W st low (d .low) works below alone i listed (d .high) (d .one) (frontOf q (W .mem) S (push l i st)) (outOf r) (memAfter (W .mem) r)
-          (registered-after inside (d .registered)) (λ y z. d .nodes y (owned-before (d .low) inside y z)) (then (W .mem) r (counted f))
-          (kept-at s q l W st low (d .low) works below alone (pointOf (f .point)) refl S (d .hot) i _ _ h p t)
+            (registered-after inside (d .registered)) (λ y z. d .nodes y (owned-before (d .low) inside y z)) (then (W .mem) r (counted f))
+            (kept-at s q l W st low (d .low) works below alone (pointOf (f .point)) refl S (d .hot) i _ _ h p t)
+
         point : f .op ≡ 1 → f .point < 31
         point op = at (number-of (f .point))
           where
             at : (pointOf (f .point) ≡ Unknown) ⊎ (f .point ≡ numberOf (pointOf (f .point))) → f .point < 31
             at (inl u) = absurd (unknown (rw u at h))
             at (inr u) = omega (arith, early (pointOf (f .point)) h op)
+
         linked : f .point ≡ numberOf D3 → W .mem .next (f .c .0) ≢ 0
         linked u = d3-goes-on (turn s q l W st low (d .low) works below alone) (rw (point-is D3 (f .point) u) at h) p t

@@ -66,12 +66,12 @@ module _ (T : Turn) where
   -- the step leaves memory M′ and what follows; own′ counts the queue's nodes then, front was frozen before, and outs are handed out
   pub data Ok (own′ : ℕ → ℕ) (front outs : List ℕ) (M′ : Mem) : After → Type 0 where
     goes-on : {f′ : Frame} {p : Point} {S x : List ℕ} {i : Item} {b b′ : Bool}
-      → pointOf (f′ .point) ≡ p → f′ .op ≡ f .op → f′ .queue .0 ≡ f .queue .0
-      → Here top q (view q M′ S) l p (regs f′) i st b b′ → Pile top q (view q M′ S) fr l st b → StandIn top q own′ M′ S x (push l i st)
-      → Beginning front (outs ++ frontOf q M′ S (push l i st)) → Ok own′ front outs M′ (Go f′)
+        → pointOf (f′ .point) ≡ p → f′ .op ≡ f .op → f′ .queue .0 ≡ f .queue .0
+        → Here top q (view q M′ S) l p (regs f′) i st b b′ → Pile top q (view q M′ S) fr l st b → StandIn top q own′ M′ S x (push l i st)
+        → Beginning front (outs ++ frontOf q M′ S (push l i st)) → Ok own′ front outs M′ (Go f′)
     has-ended : {n : Node} {S x : List ℕ} {b : Bool}
-      → M′ .lq l ≢ q → Pile top q (view q M′ S) fr l st b → StandIn top q own′ M′ S x st
-      → Beginning front (outs ++ frontOf q M′ S st) → Ok own′ front outs M′ (Done n)
+        → M′ .lq l ≢ q → Pile top q (view q M′ S) fr l st b → StandIn top q own′ M′ S x st
+        → Beginning front (outs ++ frontOf q M′ S st) → Ok own′ front outs M′ (Done n)
 
   pub by-eq : {own′ : ℕ → ℕ} {front outs : List ℕ} {M′ : Mem} {a b : ℕ} {x y : After} → (a ≡ b → Ok own′ front outs M′ x) → (a ≢ b → Ok own′ front outs M′ y) → Ok own′ front outs M′ (ifEq a b x y)
   unfolding ifEq
@@ -103,7 +103,7 @@ module _ (T : Turn) where
         → ((y : ℕ) → 0 < cnt y S + cnt y (lists st) + cnt y (flight st) → M′ .next y ≡ M .next y) → M′ .head q ≡ M .head q → M′ .tail q ≡ M .tail q
         → Pile top q (view q M′ S) fr l st b
     same-below M′ ln= lq= next= head= tail= =
-      keep-all (view q M S) (view q M′ S) fr fr l (lists st ++ flight st) (omega (arith, T .below)) (λ j m. refl) ln= lq= (λ y (m : 0 < cnt y (lists st ++ flight st)). next= y (omega (arith, cnt-append y (lists st) (flight st))))
+        keep-all (view q M S) (view q M′ S) fr fr l (lists st ++ flight st) (omega (arith, T .below)) (λ j m. refl) ln= lq= (λ y (m : 0 < cnt y (lists st ++ flight st)). next= y (omega (arith, cnt-append y (lists st) (flight st))))
         (λ j m n. the-same head= [] (sym (append-nil S)) (λ y (r : 0 < cnt y S). next= y (omega arith))) (omega arith) (λ y. simp counts (omega arith)) (λ r. tail=) d
 
     pub below-ln : (v : ℕ) → Pile top q (view q (upd M (LevelNode (level l)) v) S) fr l st b
@@ -114,4 +114,4 @@ module _ (T : Turn) where
 
     pub below-next : (a v : ℕ) → cnt a S + cnt a (lists st) + cnt a (flight st) ≡ 0 → Pile top q (view q (upd M (Next (record { 0 = a })) v) S) fr l st b
     below-next a v z = same-below (upd M (Next (record { 0 = a })) v) (λ j m. refl) (λ j m. refl)
-      (λ y (m : 0 < cnt y S + cnt y (lists st) + cnt y (flight st)). put-other (M .next) a v y (λ e. let w : cnt y S + cnt y (lists st) + cnt y (flight st) ≡ 0 = rw e z in omega arith)) refl refl
+        (λ y (m : 0 < cnt y S + cnt y (lists st) + cnt y (flight st)). put-other (M .next) a v y (λ e. let w : cnt y S + cnt y (lists st) + cnt y (flight st) ≡ 0 = rw e z in omega arith)) refl refl
