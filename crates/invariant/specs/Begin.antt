@@ -35,7 +35,7 @@ module _ (s : Sizes) (q : ℕ) (W : State) (front : List ℕ) (d : Sound s q W f
   off : W .mem .lq l ≢ q
   off e = d .registered l e .0 (idle l (omega arith))
 
-  module _ (g : Frame) (uses : ℕ → ℕ) (ins : List ℕ) (works : Works q g) (here : Here (s .levels) q (view q (W .mem) (d .settled)) l (pointOf (g .point)) (regs g) (loose ins []) (d .stack) (d .done) (d .done))
+  module _ (g : Frame) (uses : ℕ → ℕ) (ins : List ℕ) (works : Works q g) (here : Here (s .levels) q (view q (W .mem) (d .settled)) l (regs g) (pointOf (g .point)) (loose ins []) (d .stack) (d .done) (d .done))
       (more : (y : ℕ) → own (s .queues) uses q y ≡ cnt y ins + own (s .queues) (W .mem .uses) q y) (nodes : (y : ℕ) → own (s .queues) uses q y ≡ 1 → (1 ≤ y) × (y ≤ s .nodes))
       (first : g .op ≡ 2 → (j : ℕ) → On q (W .frames j) → W .frames j .op ≢ 2) where
     one : (i j : ℕ) → On q (put (W .frames) l g i) → On q (put (W .frames) l g j) → put (W .frames) l g i .op ≡ 2 → put (W .frames) l g j .op ≡ 2 → i ≡ j

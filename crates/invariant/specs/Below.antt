@@ -235,7 +235,7 @@ leads-cut {next} {p} {t = t} {w = w} c ys u f h = by (either c (p ∷ u .block) 
     by (inl k) = leads-more (next c) (u .block ++ []) (w ++ ys) (rw (u .whole) (simp counts (omega arith))) (leads-along p (u .block) c [] (u .ends) (inl refl) k)
     by (inr k) = leads-more (next c) (u .rest ++ ys) (w ++ ys) (rw (u .whole) (simp counts (omega arith))) (leads-in (u .rest) c ys (u .hangs) f k)
 
-leads-piece : {top : ℕ} {next : ℕ → ℕ} {tail o t p : ℕ} {w : List ℕ} {i : Point} {g : Regs} (c : ℕ) (ys : List ℕ) → Linked top next tail o t p w i g → Leads t ys → 0 < cnt c (p ∷ w) → Leads (next c) (w ++ ys)
+leads-piece : {top : ℕ} {next : ℕ → ℕ} {tail o t p : ℕ} {w : List ℕ} {i : Point} {g : Regs} (c : ℕ) (ys : List ℕ) → Linked top next tail o t p w g i → Leads t ys → 0 < cnt c (p ∷ w) → Leads (next c) (w ++ ys)
 leads-piece {p = p} {w = w} c ys (e10 a b s k) f h = leads-along p w c ys s f h
 leads-piece {p = p} {w = w} c ys (e11 a b s k) f h = leads-along p w c ys s f h
 leads-piece {p = p} {w = w} c ys (e12 a b s k z) f h = leads-along p w c ys s f h
@@ -276,7 +276,7 @@ shows {v = v} m x c (upon a o e (is-owner {x = y} {st = st} z i t u) d) s r (inr
 shows m x c (upon a o e (is-mark {s = p} z i t) d) s r (inl j) = rw (j, i) (simp counts (omega arith))
 shows m x c (upon a o e (is-mark z i t) d) s r (inr k) = let w = shows m x (omega arith) d s r k in simp counts (omega (arith, simp counts at w))
 
-goes-out : {q ln head : ℕ} {next : ℕ → ℕ} {S : List ℕ} {p : Point} {g : Regs} {ins outs : List ℕ} → Loose q next ln head S p g ins outs → g .op ≢ 2 → outs ≡ []
+goes-out : {q ln head : ℕ} {next : ℕ → ℕ} {S : List ℕ} {p : Point} {g : Regs} {ins outs : List ℕ} → Loose q next ln head S g p ins outs → g .op ≢ 2 → outs ≡ []
 goes-out (e1 a) h = refl
 goes-out (e2 a b) h = refl
 goes-out e28-off h = refl

@@ -34,7 +34,7 @@ pub record View : Type 0 where
   pub tail : ℕ
   pub settled : List ℕ
 
--- ---- the hot list over a stack, whose chain has the origin o and the start s, and t follows it
+-- ---- the hot list x over a stack, whose chain has the origin o and the start s, and t follows it
 
 -- it begins with the start of its chain and leads to what follows it; where nothing follows in the queue's own chain, it is tail alone
 pub record Hot (top : ℕ) (next : ℕ → ℕ) (o s t : ℕ) (x : List ℕ) : Type 0 where
@@ -45,21 +45,25 @@ pub record Hot (top : ℕ) (next : ℕ → ℕ) (o s t : ℕ) (x : List ℕ) : T
 
 -- ---- an operation that is not registered
 
--- ln is its level's node; the settled nodes S begin with the c that a dequeue is about to take
-pub data Loose (q : ℕ) (next : ℕ → ℕ) (ln head : ℕ) (S : List ℕ) : Point → Regs → List ℕ → List ℕ → Type 0 where
-  e1 : {g : Regs} → next (g .n) ≡ 0 → Loose q next ln head S E1 g (g .n ∷ []) []
-  e2 : {g : Regs} → next (g .n) ≡ 0 → ln ≡ g .n → Loose q next ln head S E2 g (g .n ∷ []) []
-  e28-off : {g : Regs} → Loose q next ln head S E28 g [] []
-  e29 : {g : Regs} → Loose q next ln head S E29 g [] []
-  d1 : {g : Regs} → g .op ≡ 2 → Loose q next ln head S D1 g [] []
-  d2 : {g : Regs} → g .op ≡ 2 → g .c ≡ head → Loose q next ln head S D2 g [] []
-  d3 : {g : Regs} {S′ : List ℕ} → g .op ≡ 2 → S ≡ g .c ∷ S′ → Loose q next ln head S D3 g [] []
-  d4 : {g : Regs} {S′ : List ℕ} → g .op ≡ 2 → S ≡ g .c ∷ S′ → Loose q next ln head S D4 g [] []
-  d5 : {g : Regs} {S′ : List ℕ} → g .op ≡ 2 → S ≡ g .c ∷ S′ → g .r ≡ next (g .c) → Loose q next ln head S D5 g [] []
-  d6 : {g : Regs} → g .op ≡ 2 → g .c ≡ q → Loose q next ln head S D6 g (g .c ∷ []) []
-  d7 : {g : Regs} → g .op ≡ 2 → g .c ≢ q → Loose q next ln head S D7 g [] (g .c ∷ [])
+-- ln is the node that its level shows; the settled nodes S begin with the c that a dequeue is about to take.
+-- The two lists: nodes that will come in, nodes that are going out
+module _ (q : ℕ) (next : ℕ → ℕ) (ln head : ℕ) (S : List ℕ) (g : Regs) where
+  open Regs g using (op, n, c, r)
 
--- ---- an operation that is registered and not linked in, over a stack with the hot list x and the nodes lower in its lists
+  pub data Loose : Point → List ℕ → List ℕ → Type 0 where
+    e1 : next n ≡ 0 → Loose E1 (n ∷ []) []
+    e2 : next n ≡ 0 → ln ≡ n → Loose E2 (n ∷ []) []
+    e28-off : Loose E28 [] []
+    e29 : Loose E29 [] []
+    d1 : op ≡ 2 → Loose D1 [] []
+    d2 : op ≡ 2 → c ≡ head → Loose D2 [] []
+    d3 : {R : List ℕ} → op ≡ 2 → S ≡ c ∷ R → Loose D3 [] []
+    d4 : {R : List ℕ} → op ≡ 2 → S ≡ c ∷ R → Loose D4 [] []
+    d5 : {R : List ℕ} → op ≡ 2 → S ≡ c ∷ R → r ≡ next c → Loose D5 [] []
+    d6 : op ≡ 2 → c ≡ q → Loose D6 (c ∷ []) []
+    d7 : op ≡ 2 → c ≢ q → Loose D7 [] (c ∷ [])
+
+-- ---- an operation that is registered and not linked in
 
 -- no level between k and l is registered
 abbrev pub Free : (ℕ → ℕ) → ℕ → ℕ → ℕ → Type 0
@@ -71,7 +75,7 @@ pub record Highest (lq : ℕ → ℕ) (q k l : ℕ) : Type 0 where
   pub registered : lq k ≡ q
   pub free : Free lq q k l
 
--- p is what that level shows, and the operation there still goes on: it is the first node of that level's own chain, or a mark,
+-- p is what that level shows, and its operation still goes on: it is the first node of that level's own chain, or a mark,
 -- before which the search looks for a place; then P holds of the search
 pub data Aim (top o s t p : ℕ) (P : Type 0) : Type 0 where
   behind : o ≢ top → t ≡ 0 → p ≡ s → Aim top o s t p P
@@ -87,65 +91,72 @@ pub record Walking (top o m c : ℕ) (x : List ℕ) : Type 0 where
   pub above : o ≢ top → o ≤ m
   pub more : o ≢ top → m ≢ top
 
--- settled: the highest registered level below is one whose work is done
-pub data Unlinked (top q l : ℕ) (ln lq next : ℕ → ℕ) (tail o s t : ℕ) (x lower : List ℕ) (settled : Bool) : Point → Regs → Type 0 where
-  e3 : {g : Regs} → g .k < l → Free lq q (g .k) l → Unlinked top q l ln lq next tail o s t x lower settled E3 g
-  e4 : {g : Regs} → Highest lq q (g .k) l → Unlinked top q l ln lq next tail o s t x lower settled E4 g
-  e5 : {g : Regs} → Highest lq q (g .k) l → g .p ≡ ln (g .k) → Unlinked top q l ln lq next tail o s t x lower settled E5 g
-  e6 : {g : Regs} → Highest lq q (g .k) l → settled ≡ true → Unlinked top q l ln lq next tail o s t x lower settled E6 g
-  e7 : {g : Regs} → ((j : ℕ) → j < l → lq j ≢ q) → Unlinked top q l ln lq next tail o s t x lower settled E7 g
-  e8 : {g : Regs} → ((j : ℕ) → j < l → lq j ≢ q) → g .c ≡ tail → Unlinked top q l ln lq next tail o s t x lower settled E8 g
-  e9 : {g : Regs} → ((j : ℕ) → j < l → lq j ≢ q) → g .c ≡ tail → Unlinked top q l ln lq next tail o s t x lower settled E9 g
-  e13 : {g : Regs} → settled ≡ false → Aim top o s t (g .p) (NotPast top o (g .m)) → g .m < l → Unlinked top q l ln lq next tail o s t x lower settled E13 g
-  e14 : {g : Regs} → settled ≡ false → Aim top o s t (g .p) (NotPast top o (g .m)) → g .m < l → lq (g .m) ≡ q → Unlinked top q l ln lq next tail o s t x lower settled E14 g
-  e15 : {g : Regs} → settled ≡ false → Aim top o s t (g .p) (o ≡ top) → Unlinked top q l ln lq next tail o s t x lower settled E15 g
-  e16 : {g : Regs} → settled ≡ false → Aim top o s t (g .p) (Walking top o (g .m) (g .c) x) → (g .m ≢ top → g .m < l)
-      → 0 < cnt (g .c) (x ++ lower) → Unlinked top q l ln lq next tail o s t x lower settled E16 g
-  e17 : {g : Regs} → settled ≡ false → Aim top o s t (g .p) ⊥ → Unlinked top q l ln lq next tail o s t x lower settled E17 g
-  e18 : {g : Regs} → settled ≡ false → Aim top o s t (g .p) ⊥ → g .r ≡ next (g .p) → Unlinked top q l ln lq next tail o s t x lower settled E18 g
-  e21 : {g : Regs} → settled ≡ false → g .p ≡ t → g .p ≢ 0 → Last (g .a) x → Unlinked top q l ln lq next tail o s t x lower settled E21 g
-  e22 : {g : Regs} → settled ≡ false → g .p ≡ t → g .p ≢ 0 → Last (g .a) x → g .r ≡ g .p → Unlinked top q l ln lq next tail o s t x lower settled E22 g
+-- l is its level; below it lie the hot list x, of a chain with origin o and start s, which t follows, and the nodes lower in the stack's lists;
+-- done says that the highest registered level there is one whose work is done
+module _ (top q l : ℕ) (ln lq next : ℕ → ℕ) (tail o s t : ℕ) (x lower : List ℕ) (done : Bool) (g : Regs) where
+  open Regs g using (k, p, c, a, r, m)
 
--- ---- an operation that is linked in: its piece is p ∷ w, and t follows it
+  pub data Unlinked : Point → Type 0 where
+    e3 : k < l → Free lq q k l → Unlinked E3
+    e4 : Highest lq q k l → Unlinked E4
+    e5 : Highest lq q k l → p ≡ ln k → Unlinked E5
+    e6 : Highest lq q k l → done ≡ true → Unlinked E6
+    e7 : ((j : ℕ) → j < l → lq j ≢ q) → Unlinked E7
+    e8 : ((j : ℕ) → j < l → lq j ≢ q) → c ≡ tail → Unlinked E8
+    e9 : ((j : ℕ) → j < l → lq j ≢ q) → c ≡ tail → Unlinked E9
+    e13 : done ≡ false → Aim top o s t p (NotPast top o m) → m < l → Unlinked E13
+    e14 : done ≡ false → Aim top o s t p (NotPast top o m) → m < l → lq m ≡ q → Unlinked E14
+    e15 : done ≡ false → Aim top o s t p (o ≡ top) → Unlinked E15
+    e16 : done ≡ false → Aim top o s t p (Walking top o m c x) → (m ≢ top → m < l) → 0 < cnt c (x ++ lower) → Unlinked E16
+    e17 : done ≡ false → Aim top o s t p ⊥ → Unlinked E17
+    e18 : done ≡ false → Aim top o s t p ⊥ → r ≡ next p → Unlinked E18
+    e21 : done ≡ false → p ≡ t → p ≢ 0 → Last a x → Unlinked E21
+    e22 : done ≡ false → p ≡ t → p ≢ 0 → Last a x → r ≡ p → Unlinked E22
 
--- the piece is cut: its first part ends, and the rest hangs on r
-pub record Cut (next : ℕ → ℕ) (p : ℕ) (w : List ℕ) (r t : ℕ) : Type 0 where
+-- ---- an operation that is linked in
+
+-- its piece s ∷ w is cut: the first part ends, and the rest hangs on r
+pub record Cut (next : ℕ → ℕ) (s : ℕ) (w : List ℕ) (r t : ℕ) : Type 0 where
   pub block : List ℕ
   pub rest : List ℕ
   pub whole : w ≡ block ++ rest
-  pub ends : Seg next p (p ∷ block) 0
+  pub ends : Seg next s (s ∷ block) 0
   pub hangs : Seg next r rest t
 
--- o is the chain's origin
-pub data Linked (top : ℕ) (next : ℕ → ℕ) (tail o t : ℕ) (p : ℕ) (w : List ℕ) : Point → Regs → Type 0 where
-  e10 : {g : Regs} → o ≡ top → t ≡ 0 → Seg next p (p ∷ w) t → 0 < cnt (g .c) (p ∷ w) → Linked top next tail o t p w E10 g
-  e11 : {g : Regs} → o ≡ top → t ≡ 0 → Seg next p (p ∷ w) t → Last (g .c) (p ∷ w) → Linked top next tail o t p w E11 g
-  e12 : {g : Regs} → o ≡ top → t ≡ 0 → Seg next p (p ∷ w) t → p ≡ g .c → w ≡ [] → Linked top next tail o t p w E12 g
-  e19 : {g : Regs} → o ≢ top → (u : Cut next p w (g .r) t) → 0 < cnt (g .c) (p ∷ u .block) → Linked top next tail o t p w E19 g
-  e20 : {g : Regs} → o ≢ top → (u : Cut next p w (g .r) t) → Last (g .c) (p ∷ u .block) → Linked top next tail o t p w E20 g
-  e23 : {g : Regs} → t ≢ 0 → (o ≢ top → g .a ≢ tail) → (u : Cut next p w (g .r) t) → 0 < cnt (g .c) (p ∷ u .block) → Linked top next tail o t p w E23 g
-  e24 : {g : Regs} → t ≢ 0 → (o ≢ top → g .a ≢ tail) → (u : Cut next p w (g .r) t) → Last (g .c) (p ∷ u .block) → Linked top next tail o t p w E24 g
-  e25 : {g : Regs} → t ≢ 0 → (o ≢ top → g .a ≢ tail) → Seg next p (p ∷ w) t → 0 < cnt (g .c) (p ∷ w) → Linked top next tail o t p w E25 g
-  e26 : {g : Regs} → t ≢ 0 → o ≡ top → Seg next p (p ∷ w) t → 0 < cnt (g .c) (p ∷ w) → Linked top next tail o t p w E26 g
-  e27 : {g : Regs} → t ≢ 0 → o ≡ top → Seg next p (p ∷ w) t → p ≡ g .c → Linked top next tail o t p w E27 g
-  e28 : {g : Regs} → (o ≡ top → t ≢ 0) → Seg next p (p ∷ w) t → Linked top next tail o t p w E28 g
+-- its chain has the origin o; t follows its piece s ∷ w
+module _ (top : ℕ) (next : ℕ → ℕ) (tail o t s : ℕ) (w : List ℕ) (g : Regs) where
+  open Regs g using (c, a, r)
+
+  pub data Linked : Point → Type 0 where
+    e10 : o ≡ top → t ≡ 0 → Seg next s (s ∷ w) t → 0 < cnt c (s ∷ w) → Linked E10
+    e11 : o ≡ top → t ≡ 0 → Seg next s (s ∷ w) t → Last c (s ∷ w) → Linked E11
+    e12 : o ≡ top → t ≡ 0 → Seg next s (s ∷ w) t → s ≡ c → w ≡ [] → Linked E12
+    e19 : o ≢ top → (u : Cut next s w r t) → 0 < cnt c (s ∷ u .block) → Linked E19
+    e20 : o ≢ top → (u : Cut next s w r t) → Last c (s ∷ u .block) → Linked E20
+    e23 : t ≢ 0 → (o ≢ top → a ≢ tail) → (u : Cut next s w r t) → 0 < cnt c (s ∷ u .block) → Linked E23
+    e24 : t ≢ 0 → (o ≢ top → a ≢ tail) → (u : Cut next s w r t) → Last c (s ∷ u .block) → Linked E24
+    e25 : t ≢ 0 → (o ≢ top → a ≢ tail) → Seg next s (s ∷ w) t → 0 < cnt c (s ∷ w) → Linked E25
+    e26 : t ≢ 0 → o ≡ top → Seg next s (s ∷ w) t → 0 < cnt c (s ∷ w) → Linked E26
+    e27 : t ≢ 0 → o ≡ top → Seg next s (s ∷ w) t → s ≡ c → Linked E27
+    e28 : (o ≡ top → t ≢ 0) → Seg next s (s ∷ w) t → Linked E28
 
 -- ---- an operation with its item, over the stack st
 
-module _ (top q : ℕ) (v : View) where
-  -- the two tests: whether the highest registered level is one whose work is done, below this one and with it
-  pub data Here (l : ℕ) : Point → Regs → Item → Stack → Bool → Bool → Type 0 where
-    is-loose : {p : Point} {g : Regs} {ins outs : List ℕ} {st : Stack} {b : Bool}
-        → v .lq l ≢ q → Loose q (v .next) (v .ln l) (v .head) (v .settled) p g ins outs → Here l p g (loose ins outs) st b b
+-- the two tests: whether the highest registered level is one whose work is done, below this one and with it
+module _ (top q : ℕ) (v : View) (l : ℕ) (g : Regs) where
+  pub data Here : Point → Item → Stack → Bool → Bool → Type 0 where
+    is-loose : {p : Point} {ins outs : List ℕ} {st : Stack} {b : Bool}
+      → v .lq l ≢ q → Loose q (v .next) (v .ln l) (v .head) (v .settled) g p ins outs → Here p (loose ins outs) st b b
     -- tail is the node that its level shows: all that is left is to take itself off
-    is-done : {g : Regs} {st : Stack}
-        → v .lq l ≡ q → v .ln l ≡ v .tail → origin top st ≡ top → Here l E28 g (loose [] []) st false true
-    is-owner : {p : Point} {g : Regs} {x : List ℕ} {st : Stack} {b : Bool}
-        → v .lq l ≡ q → v .ln l ≡ g .n → Hot top (v .next) (origin top st) (start (v .tail) st) (follow st) x
-        → Unlinked top q l (v .ln) (v .lq) (v .next) (v .tail) (origin top st) (start (v .tail) st) (follow st) x (lists st) b p g
-        → Here l p g (owner (g .n) x) st b false
-    is-mark : {p : Point} {g : Regs} {s : ℕ} {w : List ℕ} {st : Stack}
-        → v .lq l ≡ q → v .ln l ≡ s → Linked top (v .next) (v .tail) (origin top st) (follow st) s w p g → Here l p g (mark s w) st false false
+    is-done : {st : Stack} → v .lq l ≡ q → v .ln l ≡ v .tail → origin top st ≡ top → Here E28 (loose [] []) st false true
+    is-owner : {p : Point} {x : List ℕ} {st : Stack} {b : Bool}
+      → v .lq l ≡ q → v .ln l ≡ g .n → Hot top (v .next) (origin top st) (start (v .tail) st) (follow st) x
+      → Unlinked top q l (v .ln) (v .lq) (v .next) (v .tail) (origin top st) (start (v .tail) st) (follow st) x (lists st) b g p
+      → Here p (owner (g .n) x) st b false
+    is-mark : {p : Point} {s : ℕ} {w : List ℕ} {st : Stack}
+      → v .lq l ≡ q → v .ln l ≡ s → Linked top (v .next) (v .tail) (origin top st) (follow st) s w g p → Here p (mark s w) st false false
+
+-- ---- all of them
 
 -- a frame on the queue
 pub record Works (q : ℕ) (f : Frame) : Type 0 where
@@ -154,7 +165,8 @@ pub record Works (q : ℕ) (f : Frame) : Type 0 where
   pub queued : f .queue .0 ≡ q
 
 -- the operations on the queue below level n
-pub data Pile (top q : ℕ) (v : View) (fr : ℕ → Frame) : ℕ → Stack → Bool → Type 0 where
-  bottom : {n : ℕ} → Pile top q v fr n floor false
-  upon : {n l : ℕ} {p : Point} {i : Item} {st : Stack} {b b′ : Bool}
-      → l < n → Works q (fr l) → pointOf (fr l .point) ≡ p → Here top q v l p (regs (fr l)) i st b b′ → Pile top q v fr l st b → Pile top q v fr n (push l i st) b′
+module _ (top q : ℕ) (v : View) (fr : ℕ → Frame) where
+  pub data Pile : ℕ → Stack → Bool → Type 0 where
+    bottom : {n : ℕ} → Pile n floor false
+    upon : {n l : ℕ} {p : Point} {i : Item} {st : Stack} {b b′ : Bool}
+      → l < n → Works q (fr l) → pointOf (fr l .point) ≡ p → Here top q v l (regs (fr l)) p i st b b′ → Pile l st b → Pile n (push l i st) b′

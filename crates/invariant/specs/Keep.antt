@@ -77,7 +77,7 @@ use Rattle.invariant.specs.Facts.{
 
 -- a function reads the goal before its arguments, a constructor does not
 pub upon′ : {top q : ℕ} {v : View} {fr : ℕ → Frame} {n l : ℕ} {p : Point} {i : Item} {st : Stack} {b b′ : Bool}
-    → l < n → Works q (fr l) → pointOf (fr l .point) ≡ p → Here top q v l p (regs (fr l)) i st b b′ → Pile top q v fr l st b → Pile top q v fr n (push l i st) b′
+    → l < n → Works q (fr l) → pointOf (fr l .point) ≡ p → Here top q v l (regs (fr l)) p i st b b′ → Pile top q v fr l st b → Pile top q v fr n (push l i st) b′
 upon′ a b c d e = upon a b c d e
 
 -- ---- a frame that is not registered
@@ -89,9 +89,9 @@ pub data Fetches (op : ℕ) (next next′ : ℕ → ℕ) (head head′ : ℕ) (S
 
 module _ {q : ℕ} {next next′ : ℕ → ℕ} {head head′ : ℕ} {S S′ : List ℕ} where
   keep-loose : {ln ln′ : ℕ} {p : Point} {g : Regs} {ins outs : List ℕ} → ln′ ≡ ln → ((y : ℕ) → 0 < cnt y ins → next′ y ≡ next y) → Fetches (g .op) next next′ head head′ S S′
-      → Loose q next ln head S p g ins outs → Loose q next′ ln′ head′ S′ p g ins outs
-  keep-loose e n t (e1 {g = g} z) = e1 (n (g .n) (cnt-self (g .n) []) ∙ z)
-  keep-loose e n t (e2 {g = g} z i) = e2 (n (g .n) (cnt-self (g .n) []) ∙ z) (e ∙ i)
+      → Loose q next ln head S g p ins outs → Loose q next′ ln′ head′ S′ g p ins outs
+  keep-loose {g = g} e n t (e1 z) = e1 (n (g .n) (cnt-self (g .n) []) ∙ z)
+  keep-loose {g = g} e n t (e2 z i) = e2 (n (g .n) (cnt-self (g .n) []) ∙ z) (e ∙ i)
   keep-loose e n t e28-off = e28-off
   keep-loose e n t e29 = e29
   keep-loose e n t (d1 o) = d1 o
@@ -102,7 +102,7 @@ module _ {q : ℕ} {next next′ : ℕ → ℕ} {head head′ : ℕ} {S S′ : L
   keep-loose e n (no-dequeue z) (d4 o h) = absurd (z o)
   keep-loose e n (the-same i m s w) (d4 o h) = d4 o (s ∙ ap (λ t. t ++ m) h)
   keep-loose e n (no-dequeue z) (d5 o h r) = absurd (z o)
-  keep-loose e n (the-same i m s w) (d5 {g = g} {S′ = R} o h r) = d5 o (s ∙ ap (λ t. t ++ m) h) (r ∙ sym (w (g .c) (rw h (cnt-self (g .c) R))))
+  keep-loose {g = g} e n (the-same i m s w) (d5 {R = R} o h r) = d5 o (s ∙ ap (λ t. t ++ m) h) (r ∙ sym (w (g .c) (rw h (cnt-self (g .c) R))))
   keep-loose e n t (d6 o h) = d6 o h
   keep-loose e n t (d7 o h) = d7 o h
 
@@ -126,20 +126,20 @@ aim-first {s = s} h (behind r t i) = rw (i, h .begins) (cnt-self s (h .more))
 aim-first h (before i z r) = absurd r
 
 keep-unlinked : {top q l : ℕ} {ln ln′ lq lq′ next next′ : ℕ → ℕ} {tail tail′ o s t : ℕ} {x lower : List ℕ} {b : Bool} {p : Point} {g : Regs}
-    → Steady q l ln ln′ lq lq′ → ((y : ℕ) → 0 < cnt y x → next′ y ≡ next y) → tail′ ≡ tail → Hot top next o s t x → Unlinked top q l ln lq next tail o s t x lower b p g → Unlinked top q l ln′ lq′ next′ tail′ o s t x lower b p g
+    → Steady q l ln ln′ lq lq′ → ((y : ℕ) → 0 < cnt y x → next′ y ≡ next y) → tail′ ≡ tail → Hot top next o s t x → Unlinked top q l ln lq next tail o s t x lower b g p → Unlinked top q l ln′ lq′ next′ tail′ o s t x lower b g p
 keep-unlinked w next= tail= o (e3 a h) = e3 a (λ j i k. w .stays-off j k (h j i k))
 keep-unlinked w next= tail= o (e4 h) = e4 (keep-highest w h)
-keep-unlinked w next= tail= o (e5 {g = g} h e) = e5 (keep-highest w h) (e ∙ sym (w .shows (g .k) (h .below) (h .registered)))
+keep-unlinked {g = g} w next= tail= o (e5 h e) = e5 (keep-highest w h) (e ∙ sym (w .shows (g .k) (h .below) (h .registered)))
 keep-unlinked w next= tail= o (e6 h e) = e6 (keep-highest w h) e
 keep-unlinked w next= tail= o (e7 h) = e7 (λ j i. w .stays-off j i (h j i))
 keep-unlinked w next= tail= o (e8 h e) = e8 (λ j i. w .stays-off j i (h j i)) (e ∙ sym tail=)
 keep-unlinked w next= tail= o (e9 h e) = e9 (λ j i. w .stays-off j i (h j i)) (e ∙ sym tail=)
 keep-unlinked w next= tail= o (e13 s a h) = e13 s a h
-keep-unlinked w next= tail= o (e14 {g = g} s a h e) = e14 s a h (w .stays (g .m) h e)
+keep-unlinked {g = g} w next= tail= o (e14 s a h e) = e14 s a h (w .stays (g .m) h e)
 keep-unlinked w next= tail= o (e15 s a) = e15 s a
 keep-unlinked w next= tail= o (e16 s a m c) = e16 s a m c
 keep-unlinked w next= tail= o (e17 s a) = e17 s a
-keep-unlinked w next= tail= o (e18 {g = g} s a e) = e18 s a (e ∙ sym (next= (g .p) (aim-first o a)))
+keep-unlinked {g = g} w next= tail= o (e18 s a e) = e18 s a (e ∙ sym (next= (g .p) (aim-first o a)))
 keep-unlinked w next= tail= o (e21 s e z h) = e21 s e z h
 keep-unlinked w next= tail= o (e22 s e z h r) = e22 s e z h r
 
@@ -155,7 +155,7 @@ keep-cut next= u = record {
 }
 
 keep-linked : {top : ℕ} {next next′ : ℕ → ℕ} {tail tail′ o t p : ℕ} {w : List ℕ} {i : Point} {g : Regs}
-    → ((y : ℕ) → 0 < cnt y (p ∷ w) → next′ y ≡ next y) → (o ≢ top → tail′ ≡ tail) → Linked top next tail o t p w i g → Linked top next′ tail′ o t p w i g
+    → ((y : ℕ) → 0 < cnt y (p ∷ w) → next′ y ≡ next y) → (o ≢ top → tail′ ≡ tail) → Linked top next tail o t p w g i → Linked top next′ tail′ o t p w g i
 keep-linked next= tail= (e10 a b s c) = e10 a b (seg-same next= s) c
 keep-linked next= tail= (e11 a b s c) = e11 a b (seg-same next= s) c
 keep-linked next= tail= (e12 a b s c d) = e12 a b (seg-same next= s) c d
@@ -177,7 +177,7 @@ below-item j (owner n x) st y = simp counts (omega arith)
 below-item j (mark p w) st y = simp counts (omega arith)
 
 -- where tail matters to what lies below, it matters to the whole
-below-tail : {top q j : ℕ} {v : View} {p : Point} {g : Regs} {i : Item} {st : Stack} {b b′ : Bool} → j < top → Here top q v j p g i st b b′
+below-tail : {top q j : ℕ} {v : View} {p : Point} {g : Regs} {i : Item} {st : Stack} {b b′ : Bool} → j < top → Here top q v j g p i st b b′
     → (b ≡ true) ⊎ (origin top st ≢ top) → (b′ ≡ true) ⊎ (origin top (push j i st) ≢ top)
 below-tail h (is-loose z t) r = r
 below-tail h (is-done z e t) r = inl refl
@@ -191,7 +191,7 @@ module _ {top q : ℕ} (v v′ : View) (fr fr′ : ℕ → Frame) (l : ℕ) (Z :
     (fetches : (j : ℕ) → j < l → Works q (fr j) → Fetches (fr j .op) (v .next) (v′ .next) (v .head) (v′ .head) (v .settled) (v′ .settled)) where
   keep-here : {j : ℕ} {p : Point} {i : Item} {st : Stack} {b b′ : Bool} → j < l → Works q (fr j)
       → ((y : ℕ) → cnt y (lists (push j i st)) + cnt y (flight (push j i st)) ≤ cnt y Z) → ((b′ ≡ true) ⊎ (origin top (push j i st) ≢ top) → v′ .tail ≡ v .tail)
-      → Here top q v j p (regs (fr j)) i st b b′ → Here top q v′ j p (regs (fr j)) i st b b′
+      → Here top q v j (regs (fr j)) p i st b b′ → Here top q v′ j (regs (fr j)) p i st b b′
   keep-here {j} h o sub tail= (is-loose {ins = ins} {outs = outs} z t) =
       is-loose (levels .stays-off j h z) (keep-loose (ln= j h o) (λ y (m : 0 < cnt y ins). next= y (omega (arith, simp counts at (sub y)))) (fetches j h o) t)
   keep-here {j} h o sub tail= (is-done z e r) = is-done (levels .stays j h z) (ln= j h o ∙ e ∙ sym (tail= (inl refl))) r

@@ -78,8 +78,8 @@ module _ (T : Turn) where
       by false (apart o) = differ (lists st) (tail-in (omega (arith, T .below)) d o) (omega (arith, s .all 0, T .none))
 
   -- c is settled and not tail, so its link leads to a settled node or to tail: D3 never ends a dequeue
-  pub d3-goes-on : {S x : List ℕ} {i : Item} {b b′ : Bool} → Here top q (view q M S) l D3 (regs f) i st b b′ → Pile top q (view q M S) fr l st b → StandIn top q own M S x (push l i st) → M .next (f .c .0) ≢ 0
-  d3-goes-on (is-loose z (d3 {S′ = R} o e)) d s i = by (walk (f .c .0) (rw e at (s .settled)) (cnt-self (f .c .0) R))
+  pub d3-goes-on : {S x : List ℕ} {i : Item} {b b′ : Bool} → Here top q (view q M S) l (regs f) D3 i st b b′ → Pile top q (view q M S) fr l st b → StandIn top q own M S x (push l i st) → M .next (f .c .0) ≢ 0
+  d3-goes-on (is-loose z (d3 {R = R} o e)) d s i = by (walk (f .c .0) (rw e at (s .settled)) (cnt-self (f .c .0) R))
     where
       by : Walk (M .next) (f .c .0) (M .tail q) (f .c .0 ∷ R) R → ⊥
       by (on k) = let j : 0 < cnt 0 R = rw i at k in omega (arith, simp (e, counts) at (s .all 0), T .none)
@@ -119,7 +119,7 @@ module _ (T : Turn) where
 
   pub d5-ok : Case T D5
   unfolding row
-  d5-ok at S x _ b _ (is-loose z (d5 {S′ = R} o e r)) d s = by-eq T
+  d5-ok at S x _ b _ (is-loose z (d5 {R = R} o e r)) d s = by-eq T
       (λ i. goes-on (point-is D6 36 refl) refl refl (is-loose z (d6 o (i ∙ T .here .queued))) (pile o e r d s) (taken o e r d s (f .c .0 ∷ []) [] (λ y. omega (arith, cnt-nil y)))
       (front-then o e r d s [] (rw (i ∙ T .here .queued) (without-self q (R ++ M .tail q ∷ [])))))
       (λ i. goes-on (point-is D7 37 refl) refl refl (is-loose z (d7 o (λ j. i (j ∙ sym (T .here .queued))))) (pile o e r d s) (taken o e r d s [] (f .c .0 ∷ []) (λ y. omega (arith, cnt-nil y)))
@@ -161,7 +161,7 @@ module _ (T : Turn) where
 
   -- the node goes out: the queue has one node less
   pub d7-ok : (own′ : ℕ → ℕ) → ((y : ℕ) → own y ≡ cnt y (f .c .0 ∷ []) + own′ y) → pointOf (f .point) ≡ D7 → (S x : List ℕ) (i : Item) (b b′ : Bool)
-      → Here top q (view q M S) l D7 (regs f) i st b b′ → Pile top q (view q M S) fr l st b → StandIn top q own M S x (push l i st)
+      → Here top q (view q M S) l (regs f) D7 i st b b′ → Pile top q (view q M S) fr l st b → StandIn top q own M S x (push l i st)
       → Ok T own′ (frontOf q M S (push l i st)) (outOf (row D7 f (level l) (level top))) (memAfter M (row D7 f (level l) (level top))) (then M (row D7 f (level l) (level top)) f)
   unfolding row
   d7-ok own′ less at S x _ b _ (is-loose z (d7 o e)) d s =

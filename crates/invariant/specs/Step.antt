@@ -65,7 +65,7 @@ module _ (s : Sizes) (q l : ℕ) (W : State) (st : Stack) (low : l < s .levels) 
   rowAt p = row p (counted (W .frames l)) (level l) (level (s .levels))
 
   -- the node that D7 frees is the user's, and the queue's up to then
-  one-less : {S x : List ℕ} {i : Item} {b b′ : Bool} → Here (s .levels) q (view q (W .mem) S) l D7 (regs (W .frames l)) i st b b′
+  one-less : {S x : List ℕ} {i : Item} {b b′ : Bool} → Here (s .levels) q (view q (W .mem) S) l (regs (W .frames l)) D7 i st b b′
       → StandIn (s .levels) q (own (s .queues) (W .mem .uses) q) (W .mem) S x (push l i st)
       → (y : ℕ) → own (s .queues) (W .mem .uses) q y ≡ cnt y (W .frames l .c .0 ∷ []) + own (s .queues) (put (W .mem .uses) (W .frames l .c .0) 0) q y
   one-less (is-loose z (d7 o e)) t =
@@ -73,7 +73,7 @@ module _ (s : Sizes) (q l : ℕ) (W : State) (st : Stack) (low : l < s .levels) 
       let mine : own (s .queues) (W .mem .uses) q c ≡ 1 = omega (arith, simp counts at (t .all c), own-le (s .queues) (W .mem .uses) q c) in
       own-freed (s .queues) (W .mem .uses) q c q≥ (own-user (s .queues) (W .mem .uses) q c mine e) mine
 
-  kept-at : (p : Point) → pointOf (W .frames l .point) ≡ p → (S x : List ℕ) (i : Item) (b b′ : Bool) → Here (s .levels) q (view q (W .mem) S) l p (regs (counted (W .frames l))) i st b b′
+  kept-at : (p : Point) → pointOf (W .frames l .point) ≡ p → (S x : List ℕ) (i : Item) (b b′ : Bool) → Here (s .levels) q (view q (W .mem) S) l (regs (counted (W .frames l))) p i st b b′
       → Pile (s .levels) q (view q (W .mem) S) (W .frames) l st b → StandIn (s .levels) q (own (s .queues) (W .mem .uses) q) (W .mem) S x (push l i st)
       → Ok turn (own (s .queues) (memAfter (W .mem) (rowAt p) .uses) q) (frontOf q (W .mem) S (push l i st)) (outOf (rowAt p)) (memAfter (W .mem) (rowAt p)) (then (W .mem) (rowAt p) (counted (W .frames l)))
   unfolding row counted
@@ -119,7 +119,7 @@ module _ (s : Sizes) (q l : ℕ) (W : State) (st : Stack) (low : l < s .levels) 
 
 -- the highest frame on the queue is the top of the stack
 data TopOf (top q : ℕ) (v : View) (fr : ℕ → Frame) (l : ℕ) : Stack → Bool → Type 0 where
-  top-is : {i : Item} {st : Stack} {b b′ : Bool} → Works q (fr l) → Here top q v l (pointOf (fr l .point)) (regs (fr l)) i st b b′ → Pile top q v fr l st b → TopOf top q v fr l (push l i st) b′
+  top-is : {i : Item} {st : Stack} {b b′ : Bool} → Works q (fr l) → Here top q v l (regs (fr l)) (pointOf (fr l .point)) i st b b′ → Pile top q v fr l st b → TopOf top q v fr l (push l i st) b′
 
 on-top : {top q n : ℕ} {v : View} {fr : ℕ → Frame} {st : Stack} {b : Bool} (l : ℕ) → ((j : ℕ) → l < j → fr j .op ≡ 0) → Pile top q v fr n st b → Listed l st → TopOf top q v fr l st b
 on-top l idle (upon a o e t d) (inl h) = rw h (top-is o (rw (sym e) at t) d)
@@ -239,7 +239,7 @@ begins-from : {xs ys zs : List ℕ} → xs ≡ ys → Beginning ys zs → Beginn
 begins-from e b = (b .0, ap (λ y. y ++ b .0) e ∙ b .1)
 
 -- an enqueue is at no D point
-early : {top q l : ℕ} {v : View} {g : Regs} {i : Item} {st : Stack} {b b′ : Bool} (p : Point) → Here top q v l p g i st b b′ → g .op ≡ 1 → numberOf p < 31
+early : {top q l : ℕ} {v : View} {g : Regs} {i : Item} {st : Stack} {b b′ : Bool} (p : Point) → Here top q v l g p i st b b′ → g .op ≡ 1 → numberOf p < 31
 early E1 h o = omega arith
 early E2 h o = omega arith
 early E3 h o = omega arith

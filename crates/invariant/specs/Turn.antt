@@ -67,7 +67,7 @@ module _ (T : Turn) where
   pub data Ok (own′ : ℕ → ℕ) (front outs : List ℕ) (M′ : Mem) : After → Type 0 where
     goes-on : {f′ : Frame} {p : Point} {S x : List ℕ} {i : Item} {b b′ : Bool}
         → pointOf (f′ .point) ≡ p → f′ .op ≡ f .op → f′ .queue .0 ≡ f .queue .0
-        → Here top q (view q M′ S) l p (regs f′) i st b b′ → Pile top q (view q M′ S) fr l st b → StandIn top q own′ M′ S x (push l i st)
+        → Here top q (view q M′ S) l (regs f′) p i st b b′ → Pile top q (view q M′ S) fr l st b → StandIn top q own′ M′ S x (push l i st)
         → Beginning front (outs ++ frontOf q M′ S (push l i st)) → Ok own′ front outs M′ (Go f′)
     has-ended : {n : Node} {S x : List ℕ} {b : Bool}
         → M′ .lq l ≢ q → Pile top q (view q M′ S) fr l st b → StandIn top q own′ M′ S x st
@@ -83,17 +83,17 @@ module _ (T : Turn) where
 
   -- a step at point p: from each ghost state that fits the frame to one that fits what the step leaves
   abbrev pub Case : Point → Type 0
-  Case p = pointOf (f .point) ≡ p → (S x : List ℕ) (i : Item) (b b′ : Bool) → Here top q (view q M S) l p (regs f) i st b b′ → Pile top q (view q M S) fr l st b → StandIn top q (T .own) M S x (push l i st)
+  Case p = pointOf (f .point) ≡ p → (S x : List ℕ) (i : Item) (b b′ : Bool) → Here top q (view q M S) l (regs f) p i st b b′ → Pile top q (view q M S) fr l st b → StandIn top q (T .own) M S x (push l i st)
       → Ok (T .own) (frontOf q M S (push l i st)) (outOf (row p f (level l) (level top))) (memAfter M (row p f (level l) (level top))) (then M (row p f (level l) (level top)) f)
 
   -- to point p, and the front stands still
   pub stay : {f′ : Frame} {S x : List ℕ} {b b′ : Bool} {own′ : ℕ → ℕ} {M′ : Mem} (p : Point) (i : Item) → pointOf (f′ .point) ≡ p → f′ .op ≡ f .op → f′ .queue .0 ≡ f .queue .0
-      → Here top q (view q M′ S) l p (regs f′) i st b b′ → Pile top q (view q M′ S) fr l st b → StandIn top q own′ M′ S x (push l i st)
+      → Here top q (view q M′ S) l (regs f′) p i st b b′ → Pile top q (view q M′ S) fr l st b → StandIn top q own′ M′ S x (push l i st)
       → Ok own′ (frontOf q M′ S (push l i st)) [] M′ (Go f′)
   stay p i a b c d e s = goes-on a b c d e s (begins-same _)
 
   pub to : {f′ : Frame} {S x : List ℕ} {b b′ : Bool} {own′ : ℕ → ℕ} {M′ : Mem} (p : Point) (i : Item) → f′ .point ≡ numberOf p → f′ .op ≡ f .op → f′ .queue .0 ≡ f .queue .0
-      → Here top q (view q M′ S) l p (regs f′) i st b b′ → Pile top q (view q M′ S) fr l st b → StandIn top q own′ M′ S x (push l i st)
+      → Here top q (view q M′ S) l (regs f′) p i st b b′ → Pile top q (view q M′ S) fr l st b → StandIn top q own′ M′ S x (push l i st)
       → Ok own′ (frontOf q M′ S (push l i st)) [] M′ (Go f′)
   to {f′} p i a b c d e s = stay p i (point-is p (f′ .point) a) b c d e s
 

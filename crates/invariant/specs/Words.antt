@@ -80,16 +80,16 @@ use Rattle.invariant.specs.Turn.{view, StandIn}
 
 -- ---- no operation stands at an unknown point
 
-no-loose : {q ln head : ℕ} {next : ℕ → ℕ} {S : List ℕ} {g : Regs} {ins outs : List ℕ} → Loose q next ln head S Unknown g ins outs → ⊥
+no-loose : {q ln head : ℕ} {next : ℕ → ℕ} {S : List ℕ} {g : Regs} {ins outs : List ℕ} → Loose q next ln head S g Unknown ins outs → ⊥
 no-loose = elim [ ]
 
-no-unlinked : {top q l tail o s t : ℕ} {ln lq next : ℕ → ℕ} {x lower : List ℕ} {b : Bool} {g : Regs} → Unlinked top q l ln lq next tail o s t x lower b Unknown g → ⊥
+no-unlinked : {top q l tail o s t : ℕ} {ln lq next : ℕ → ℕ} {x lower : List ℕ} {b : Bool} {g : Regs} → Unlinked top q l ln lq next tail o s t x lower b g Unknown → ⊥
 no-unlinked = elim [ ]
 
-no-linked : {top tail o t p : ℕ} {next : ℕ → ℕ} {w : List ℕ} {g : Regs} → Linked top next tail o t p w Unknown g → ⊥
+no-linked : {top tail o t p : ℕ} {next : ℕ → ℕ} {w : List ℕ} {g : Regs} → Linked top next tail o t p w g Unknown → ⊥
 no-linked = elim [ ]
 
-pub unknown : {top q l : ℕ} {v : View} {g : Regs} {i : Item} {st : Stack} {b b′ : Bool} → Here top q v l Unknown g i st b b′ → ⊥
+pub unknown : {top q l : ℕ} {v : View} {g : Regs} {i : Item} {st : Stack} {b b′ : Bool} → Here top q v l g Unknown i st b b′ → ⊥
 unknown (is-loose z t) = no-loose t
 unknown (is-owner z n t u) = no-unlinked u
 unknown (is-mark z n t) = no-linked t
@@ -128,7 +128,7 @@ module _ (s : Sizes) (q l : ℕ) (W : State) (st : Stack) (f : Frame) (low : l <
   unfolding Bound
   registers {v} j a b c = store {w = LevelQueue j} {v = v} a (b, c)
 
-  pub within : (p : Point) {S x : List ℕ} {i : Item} {b b′ : Bool} → Here (s .levels) q (view q (W .mem) S) l p (regs f) i st b b′ → Pile (s .levels) q (view q (W .mem) S) (W .frames) l st b
+  pub within : (p : Point) {S x : List ℕ} {i : Item} {b b′ : Bool} → Here (s .levels) q (view q (W .mem) S) l (regs f) p i st b b′ → Pile (s .levels) q (view q (W .mem) S) (W .frames) l st b
       → StandIn (s .levels) q (own (s .queues) (W .mem .uses) q) (W .mem) S x (push l i st) → Within s q W (row p f (level l) (level (s .levels)))
   unfolding row Bound
   within E1 h d t = store low on
