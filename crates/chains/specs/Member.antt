@@ -45,3 +45,6 @@ differ xs h z e = let k : 0 < cnt _ xs = rw e at h in omega arith
 pub last-of : (y : ℕ) (ys : List ℕ) → (c : ℕ) × Last c (y ∷ ys)
 last-of y [] = (y, ([], refl))
 last-of y (z ∷ ys) = let r = last-of z ys in (r .0, (y ∷ r .1 .0, ap (λ t. y ∷ t) (r .1 .1)))
+
+pub last-in : (c : ℕ) (xs : List ℕ) → Last c xs → 0 < cnt c xs
+last-in c xs e = rw (e .1) (simp counts (omega arith))
