@@ -29,7 +29,7 @@ use Rattle.state.specs.Mem.{Mem, put, upd}
 use Rattle.state.specs.View.{memory, frames, look-rd, frame-is, frame-idle, memory-wr, frames-wr, memory-put, frames-put}
 use Rattle.state.specs.Queues.{own}
 use Rattle.demand.proofs.Apart.{own-put, own-handed}
-use Rattle.demand.proofs.World.{Invariant, World, IdleFrom, enqueueBegun, world-enqueue, world-dequeue}
+use Rattle.demand.proofs.World.{World, IdleFrom, enqueueBegun, world-enqueue, world-dequeue}
 use Rattle.demand.proofs.Bridge.{stateOf, has-is}
 use Rattle.demand.proofs.Keeps.{Keeps}
 
@@ -141,13 +141,13 @@ module _ (s : Sizes) (t : List ℕ) (m : measured t ≡ Sized s) (l : Level) whe
 
 -- ---- what it keeps
 
-module _ (I : Invariant) (s : Sizes) (t : List ℕ) (fronts : ℕ → List ℕ) (m : measured t ≡ Sized s) (w : World I s (stateOf s t) fronts) (l : Level) where
+module _ (s : Sizes) (t : List ℕ) (fronts : ℕ → List ℕ) (m : measured t ≡ Sized s) (w : World s (stateOf s t) fronts) (l : Level) where
   put-state : (g : Frame) → l .0 < s .levels → stateOf s (putFrame s t l g) ≡ record { mem = memory s t; frames = put (frames s t) (l .0) g }
   put-state g low =
       let room = measured-fits t s m .room in
       λ i. record { mem = memory-put s t room l g i; frames = frames-put s t room l low g i }
 
-  pub dequeue-kept : (q : Queue) (u : List ℕ) → dequeueOf t l q ≡ (says tt, u) → Keeps I s t fronts (λ r. []) (λ r. []) u
+  pub dequeue-kept : (q : Queue) (u : List ℕ) → dequeueOf t l q ≡ (says tt, u) → Keeps s t fronts (λ r. []) (λ r. []) u
   dequeue-kept q u h = rw (c .table) given
     where
       c : CanDequeue s t l q u
@@ -156,20 +156,20 @@ module _ (I : Invariant) (s : Sizes) (t : List ℕ) (fronts : ℕ → List ℕ) 
       g : Frame
       g = begun 2 D1 q (node 0)
 
-      given : Keeps I s t fronts (λ r. []) (λ r. []) (putFrame s t l g)
+      given : Keeps s t fronts (λ r. []) (λ r. []) (putFrame s t l g)
       given =
           record {
             sized = measured-put s t l g m;
             fronts′ = fronts;
             world =
                 rw (put-state g (c .low))
-                (world-dequeue I s (stateOf s t) fronts w (l .0) (q .0) (c .low) (c .idle) (c .some-queue) (c .queue-known) (c .only));
+                (world-dequeue s (stateOf s t) fronts w (l .0) (q .0) (c .low) (c .idle) (c .some-queue) (c .queue-known) (c .only));
             begins = λ r. begins-same (fronts r);
             balance = λ r some n. rw (memory-put s t (measured-fits t s m .room) l g);
           }
 
   pub enqueue-kept : (q : Queue) (n : Node) (u : List ℕ) → enqueueOf t l q n ≡ (says tt, u)
-      → Keeps I s t fronts (λ r. []) (λ r. cond (eqb (q .0) r) (n .0 ∷ []) []) u
+      → Keeps s t fronts (λ r. []) (λ r. cond (eqb (q .0) r) (n .0 ∷ []) []) u
   unfolding Bound
   enqueue-kept q n u h = rw (c .table) given
     where
@@ -201,14 +201,14 @@ module _ (I : Invariant) (s : Sizes) (t : List ℕ) (fronts : ℕ → List ℕ) 
       unused : memory s t .uses (n .0) ≡ 0
       unused = look-rd s t (Use n) here ∙ c .unused
 
-      given : Keeps I s t fronts (λ r. []) (λ r. cond (eqb (q .0) r) (n .0 ∷ []) []) (wr s v (Use n) (q .0))
+      given : Keeps s t fronts (λ r. []) (λ r. cond (eqb (q .0) r) (n .0 ∷ []) []) (wr s v (Use n) (q .0))
       given =
           record {
             sized = measured-wr s v (Use n) (q .0) mv here;
             fronts′ = fronts;
             world =
                 rw state
-                (world-enqueue I s (stateOf s t) fronts w (l .0) (q .0) (c .low) (c .idle) (c .some-queue) (c .queue-known) (n .0) (c .user) (c .node-known) unused);
+                (world-enqueue s (stateOf s t) fronts w (l .0) (q .0) (c .low) (c .idle) (c .some-queue) (c .queue-known) (n .0) (c .user) (c .node-known) unused);
             begins = λ r. begins-same (fronts r);
             balance = balance;
           }

@@ -20,7 +20,7 @@ use Rattle.state.specs.Mem.{Mem, put, put-same, put-other}
 use Rattle.state.specs.Step.{memAfter, then, frameAfter, rowOf}
 use Rattle.state.specs.View.{memory, frames, frame-is}
 use Rattle.demand.proofs.Rows.{goes-on}
-use Rattle.demand.proofs.World.{Invariant, World}
+use Rattle.demand.proofs.World.{World}
 use Rattle.demand.proofs.Bridge.{stateOf, saysOf, same-said}
 use Rattle.demand.proofs.Steps.{StepAt, step-at}
 use Rattle.demand.specs.History.{Event, ran, Accepted, enqueue, dequeue, step, run, ask, History, none, call}
@@ -35,26 +35,26 @@ pub record Ending (l o : ℕ) (q : Queue) (x : ℕ) (e : End) : Type 0 where
   pub queue-is : e .queue ≡ q
   pub node-is : e .node .0 ≡ x
 
-module _ (I : Invariant) (s : Sizes) (l : ℕ) (low : l < s .levels) where
+module _ (s : Sizes) (l : ℕ) (low : l < s .levels) where
   -- the frame f at level l, of memory M, is next
   pub record Next (M : Mem) (f : Frame) (t : List ℕ) (fronts : ℕ → List ℕ) : Type 0 where
     pub sized : measured t ≡ Sized s
-    pub world : World I s (stateOf s t) fronts
+    pub world : World s (stateOf s t) fronts
     pub mem : memory s t ≡ M
     pub frame : frames s t l ≡ f
     pub runs : f .op ≢ 0
     pub top : (j : ℕ) → l < j → frames s t j .op ≡ 0
 
   one-step : {M : Mem} {f : Frame} {a : After} (t : List ℕ) (fronts : ℕ → List ℕ) → Next M f t fronts → then M (rowOf (s .levels) l f) (counted f) ≡ a
-      → StepAt I s t fronts l (saysOf (level l) (counted f) a)
+      → StepAt s t fronts l (saysOf (level l) (counted f) a)
   one-step t fronts h e =
       let f′ = frame-is s t l low in
       let k =
-      step-at I s t fronts (h .sized) (h .world) l low (rw (← f′, h .frame) (h .runs)) (λ j a b. rw (← frame-is s t j b) (h .top j a)) in
+      step-at s t fronts (h .sized) (h .world) l low (rw (← f′, h .frame) (h .runs)) (λ j a b. rw (← frame-is s t j b) (h .top j a)) in
       rw (h .mem, h .frame, e) at k
 
   going : {M : Mem} {f g : Frame} (t : List ℕ) (fronts : ℕ → List ℕ) (h : Next M f t fronts) (e : then M (rowOf (s .levels) l f) (counted f) ≡ Go g)
-      (k : StepAt I s t fronts l going-on) → Next (memAfter M (rowOf (s .levels) l f)) g (k .table) (k .keeps .fronts′)
+      (k : StepAt s t fronts l going-on) → Next (memAfter M (rowOf (s .levels) l f)) g (k .table) (k .keeps .fronts′)
   going {M} {f} {g} t fronts h e k =
       record {
         sized = k .keeps .sized;

@@ -21,7 +21,8 @@ use Rattle.lists.specs.Beginning.{without, without-self}
 use Rattle.chains.specs.Seg.{stop, link}
 use Rattle.state.specs.View.{levelQueue, headOf, tailOf, nextOf, useOf, seen, memory, frames, frame-idle, uses-past}
 use Rattle.state.specs.Queues.{own}
-use Rattle.demand.proofs.World.{Invariant, World, Chained}
+use Rattle.invariant.specs.Sound.{Sound, Chained, sound-start}
+use Rattle.demand.proofs.World.{World}
 use Rattle.demand.proofs.Bridge.{stateOf, has-is, same-said, no-answer}
 
 -- a fresh table that was accepted, as the theory sees it: zeros, but for head and tail of the queues
@@ -70,7 +71,7 @@ freshly s lent t = by (limits s) refl (ltb (length lent) (words s)) refl
 
 -- ---- its queues
 
-module _ (I : Invariant) (s : Sizes) (t : List ℕ) (f : Freshly s t) where
+module _ (s : Sizes) (t : List ℕ) (f : Freshly s t) where
   -- a queue's node is its sentinel alone
   pub fresh-own : (q : ℕ) → 1 ≤ q → q ≤ s .queues → (n : ℕ) → own (s .queues) (memory s t .uses) q n ≡ hit (eqb n q)
   unfolding own
@@ -82,7 +83,7 @@ module _ (I : Invariant) (s : Sizes) (t : List ℕ) (f : Freshly s t) where
           rw (f .uses n, ne-eqb 0 q (λ z. omega arith), ne-eqb n q (λ z. omega arith))
       by false e = refl
 
-  pub fresh-world : World I s (stateOf s t) (λ q. [])
+  pub fresh-world : World s (stateOf s t) (λ q. [])
   unfolding without
   fresh-world =
       record {
@@ -101,7 +102,7 @@ module _ (I : Invariant) (s : Sizes) (t : List ℕ) (f : Freshly s t) where
             front-is = sym (without-self q []);
           }
 
-      sound : (q : ℕ) → 1 ≤ q → q ≤ s .queues → I .Sound s q (stateOf s t) []
+      sound : (q : ℕ) → 1 ≤ q → q ≤ s .queues → Sound s q (stateOf s t) []
       sound q a b =
-          I .start s q (stateOf s t) [] a b (measured-limits t s (f .sized) .sentinels) (λ j on. on .0 (f .idle j))
+          sound-start s q (stateOf s t) [] a b (measured-limits t s (f .sized) .sentinels) (λ j on. on .0 (f .idle j))
           (λ j e. omega (arith, f .lq j)) (uses-past s t) (chained q a b)

@@ -26,7 +26,8 @@ use Rattle.lists.specs.Beginning.{without, cnt-without}
 use Rattle.chains.specs.Seg.{Seg, stop, link}
 use Rattle.state.specs.View.{memory, frames, look-rd, frame-is, frame-idle, uses-past}
 use Rattle.state.specs.Queues.{On, own}
-use Rattle.demand.proofs.World.{Invariant, World, Chained}
+use Rattle.invariant.specs.Sound.{Chained, quiet as at-rest}
+use Rattle.demand.proofs.World.{World}
 use Rattle.demand.proofs.Bridge.{stateOf, has-is, other-number}
 use Rattle.demand.proofs.Begins.{none-of}
 use Rattle.demand.proofs.Quiet.{once-short, chain-is, along-is, first-is}
@@ -121,10 +122,10 @@ starts q (link {x = x} {xs = xs} e r) held real z = omega (arith, real x (cnt-se
 
 -- ---- the quiet moment
 
-module _ (I : Invariant) (s : Sizes) (t : List ℕ) (fronts : ℕ → List ℕ) (m : measured t ≡ Sized s) (w : World I s (stateOf s t) fronts) (q : Queue)
+module _ (s : Sizes) (t : List ℕ) (fronts : ℕ → List ℕ) (m : measured t ≡ Sized s) (w : World s (stateOf s t) fronts) (q : Queue)
     (quiet : Nobody s t q) where
   c : Chained s (q .0) (stateOf s t) (fronts (q .0))
-  c = I .quiet s (q .0) (stateOf s t) (fronts (q .0)) (w .sound (q .0) (quiet .some-queue) (quiet .queue-known)) (quiet .nobody)
+  c = at-rest s (q .0) (stateOf s t) (fronts (q .0)) (w .sound (q .0) (quiet .some-queue) (quiet .queue-known)) (quiet .nobody)
 
   known : (x : ℕ) → 0 < cnt x (c .nodes) → (1 ≤ x) × (x ≤ s .nodes)
   known x h =
@@ -182,7 +183,7 @@ module _ (I : Invariant) (s : Sizes) (t : List ℕ) (fronts : ℕ → List ℕ) 
   pub off : (j : ℕ) → memory s t .lq j ≢ q .0
   off j e =
       quiet .nobody j
-      (I .registered s (q .0) (stateOf s t) (fronts (q .0)) (w .sound (q .0) (quiet .some-queue) (quiet .queue-known)) j e)
+      (w .sound (q .0) (quiet .some-queue) (quiet .queue-known) .registered j e)
 
   -- the listing call
   nodes-are : nodesOf s t q ≡ some (stillIn s t q)
@@ -218,13 +219,13 @@ module _ (I : Invariant) (s : Sizes) (t : List ℕ) (fronts : ℕ → List ℕ) 
       by false e = let z : _≡_ {A = ℕ} 0 1 = cc in omega arith
 
 -- a listing is never refused with 10
-pub listing-unharmed : (I : Invariant) (s : Sizes) (t : List ℕ) (fronts : ℕ → List ℕ) → measured t ≡ Sized s → World I s (stateOf s t) fronts
+pub listing-unharmed : (s : Sizes) (t : List ℕ) (fronts : ℕ → List ℕ) → measured t ≡ Sized s → World s (stateOf s t) fronts
     → (q : Queue) (room : List ℕ) → listingOf t q room .0 ≢ refused 10
 unfolding listingOf listingMeasured listingSized noQueue
-listing-unharmed I s t fronts m w q room = rw m (by (within 1 (s .queues) (q .0)) refl (unquiet s t q) refl)
+listing-unharmed s t fronts m w q room = rw m (by (within 1 (s .queues) (q .0)) refl (unquiet s t q) refl)
   where
     by : (a : Bool) → within 1 (s .queues) (q .0) ≡ a → (b : Bool) → unquiet s t q ≡ b
         → _≢_ {A = Said ℕ} (cond {A = Said ℕ × List ℕ} (not a) (refused 4, room) (cond b (refused 11, room) (listed (nodesOf s t q) room)) .0) (refused 10)
     by false a b u e = other-number e (omega arith)
     by true a true u e = other-number e (omega arith)
-    by true a false u e = nodes-listed I s t fronts m w q (nobody-on s t q a u) room e
+    by true a false u e = nodes-listed s t fronts m w q (nobody-on s t q a u) room e

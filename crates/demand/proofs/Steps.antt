@@ -32,7 +32,7 @@ use Rattle.state.specs.Mem.{Mem, look, upd}
 use Rattle.state.specs.Step.{State, memAfter, then, rowOf, stepped}
 use Rattle.state.specs.View.{memory, frames, frame-is, frame-idle}
 use Rattle.state.specs.Queues.{On, own, Mine, Within, load, store, free, outOf}
-use Rattle.demand.proofs.World.{Invariant, World, Moving, world-step}
+use Rattle.demand.proofs.World.{World, Moving, world-step}
 use Rattle.demand.proofs.Rows.{Plain, goes, empty, handed, Plainly, row-plain, number-D7}
 use Rattle.demand.proofs.Apart.{own-use, own-put, own-freed}
 use Rattle.demand.proofs.Bridge.{stateOf, saysOf, Bridged, performed-is}
@@ -181,113 +181,112 @@ module _ (s : Sizes) (q : ℕ) (S : State) (some : 1 ≤ q) (y : ℕ) where
       own-put (s .queues) (S .mem .uses) q (n .0) 0 (λ e. ne (sym e ∙ own-use (s .queues) (S .mem .uses) r (n .0) low o))
       (λ e. omega arith) y
 
-module _ (I : Invariant) where
-  -- a step that serves the frame at level l, and says x
-  pub record StepAt (s : Sizes) (t : List ℕ) (fronts : ℕ → List ℕ) (l : ℕ) (x : Step) : Type 0 where
-    pub table : List ℕ
-    pub is : stepSized s t ≡ (says x, table)
-    pub bridged : Bridged s t table l (counted (frames s t l)) (rowOf (s .levels) l (frames s t l))
-    pub keeps : Keeps I s t fronts (λ q. returnedByStep q x) (λ q. []) table
-    pub linked : frames s t l .point ≡ numberOf D3 → memory s t .next (frames s t l .c .0) ≢ 0
+-- a step that serves the frame at level l, and says x
+pub record StepAt (s : Sizes) (t : List ℕ) (fronts : ℕ → List ℕ) (l : ℕ) (x : Step) : Type 0 where
+  pub table : List ℕ
+  pub is : stepSized s t ≡ (says x, table)
+  pub bridged : Bridged s t table l (counted (frames s t l)) (rowOf (s .levels) l (frames s t l))
+  pub keeps : Keeps s t fronts (λ q. returnedByStep q x) (λ q. []) table
+  pub linked : frames s t l .point ≡ numberOf D3 → memory s t .next (frames s t l .c .0) ≢ 0
 
-  pub data Outcome (s : Sizes) (t : List ℕ) (fronts : ℕ → List ℕ) : Type 0 where
-    idle : stepSized s t ≡ (refused 9, t) → ((j : ℕ) → frames s t j .op ≡ 0) → Outcome s t fronts
-    took : (x : Step) (u : List ℕ) → stepSized s t ≡ (says x, u) → Keeps I s t fronts (λ q. returnedByStep q x) (λ q. []) u → Outcome s t fronts
+pub data Outcome (s : Sizes) (t : List ℕ) (fronts : ℕ → List ℕ) : Type 0 where
+  idle : stepSized s t ≡ (refused 9, t) → ((j : ℕ) → frames s t j .op ≡ 0) → Outcome s t fronts
+  took : (x : Step) (u : List ℕ) → stepSized s t ≡ (says x, u) → Keeps s t fronts (λ q. returnedByStep q x) (λ q. []) u → Outcome s t fronts
 
-  module _ (s : Sizes) (t : List ℕ) (fronts : ℕ → List ℕ) (m : measured t ≡ Sized s) (w : World I s (stateOf s t) fronts) where
-    -- the frame at level l is served
-    module _ (l : ℕ) (low : l < s .levels) (run : frameOf s t (level l) .op ≢ 0)
-        (top : (j : ℕ) → l < j → j < s .levels → frameOf s t (level j) .op ≡ 0) where
-      abbrev f : Frame
-      f = frames s t l
+module _ (s : Sizes) (t : List ℕ) (fronts : ℕ → List ℕ) (m : measured t ≡ Sized s) (w : World s (stateOf s t) fronts) where
+  -- the frame at level l is served
+  module _ (l : ℕ) (low : l < s .levels) (run : frameOf s t (level l) .op ≢ 0)
+      (top : (j : ℕ) → l < j → j < s .levels → frameOf s t (level j) .op ≡ 0) where
+    abbrev f : Frame
+    f = frames s t l
 
-      abbrev q : ℕ
-      q = frames s t l .queue .0
+    abbrev q : ℕ
+    q = frames s t l .queue .0
 
-      abbrev x : Row
-      x = rowOf (s .levels) l (frames s t l)
+    abbrev x : Row
+    x = rowOf (s .levels) l (frames s t l)
 
-      abbrev a : After
-      a = then (memory s t) (rowOf (s .levels) l (frames s t l)) (counted (frames s t l))
+    abbrev a : After
+    a = then (memory s t) (rowOf (s .levels) l (frames s t l)) (counted (frames s t l))
 
-      running : On q (frames s t l)
-      running = (rw (frame-is s t l low) run, refl)
+    running : On q (frames s t l)
+    running = (rw (frame-is s t l low) run, refl)
 
-      somewhere : (1 ≤ q) × (q ≤ s .queues)
-      somewhere = w .on-some l (running .0)
+    somewhere : (1 ≤ q) × (q ≤ s .queues)
+    somewhere = w .on-some l (running .0)
 
-      k : Moving I s (stateOf s t) fronts l q
-      k = world-step I s (stateOf s t) fronts w l q low running (λ j h. frame-idle s t j (top j h))
+    k : Moving s (stateOf s t) fronts l q
+    k = world-step s (stateOf s t) fronts w l q low running (λ j h. frame-idle s t j (top j h))
 
-      plain : Plainly (pointOf (counted f .point)) (counted f) x
-      plain = row-plain (pointOf (counted f .point)) (counted f) (level l) (level (s .levels))
+    plain : Plainly (pointOf (counted f .point)) (counted f) x
+    plain = row-plain (pointOf (counted f .point)) (counted f) (level l) (level (s .levels))
 
-      -- only a dequeue comes to D7
-      dequeues : pointOf (counted f .point) ≡ D7 → counted f .op ≡ 2
-      unfolding counted
-      dequeues e =
-          let o = k .op in
-          let p = number-D7 (f .point) e in
-          by (eqb (f .op) 1) (same? (f .op) 1)
-        where
-          by : (b : Bool) → Same (f .op) 1 b → f .op ≡ 2
-          by true (same z) = absurd (omega (arith, k .point z, number-D7 (f .point) e))
-          by false (apart z) = let o = k .op in let r = running .0 in omega arith
-
-      took-from : (u : List ℕ) → Bridged s t u l (counted f) x → Keeps I s t fronts (λ r. returnedByStep r (saysOf (level l) (counted f) a)) (λ r. []) u
-      unfolding counted
-      took-from u b =
-          record { sized = b .sized; fronts′ = k .fronts′; world = rw state (k .world); begins = begins; balance = balance }
-        where
-          state : stateOf s u ≡ stepped (s .levels) l (stateOf s t)
-          state = λ i. record { mem = b .mem i; frames = b .frames-are i }
-
-          given : Step
-          given = saysOf (level l) (counted f) a
-
-          here : returnedByStep q given ≡ outOf x
-          here = returns-out (level l) (memory s t) (counted f) s q (stateOf s t) (pointOf (f .point)) x (k .within) plain refl dequeues
-
-          there : (r : ℕ) → r ≢ q → returnedByStep r given ≡ []
-          there r ne = returns-none (level l) (memory s t) (counted f) r a (λ e. ne (sym e))
-
-          begins : (r : ℕ) → Beginning (fronts r) (returnedByStep r given ++ k .fronts′ r)
-          begins r = by (eqb r q) (same? r q)
-            where
-              by : (c : Bool) → Same r q c → Beginning (fronts r) (returnedByStep r given ++ k .fronts′ r)
-              by true (same e) = rw (e, here) (k .begins)
-              by false (apart e) = rw (there r e, k .others r e) (begins-same (fronts r))
-
-          balance : (r : ℕ) → 1 ≤ r → (y : ℕ)
-              → own (s .queues) (memory s u .uses) r y + cnt y (returnedByStep r given) ≡ own (s .queues) (memory s t .uses) r y + cnt y []
-          balance r some y = by (eqb r q) (same? r q)
-            where
-              by : (c : Bool) → Same r q c
-                  → own (s .queues) (memory s u .uses) r y + cnt y (returnedByStep r given) ≡ own (s .queues) (memory s t .uses) r y + cnt y []
-              by true (same e) = let o = out-balance s q (stateOf s t) (somewhere .0) y x (k .within) in rw (e, here, b .mem) (simp counts (omega arith))
-              by false (apart e) =
-                  let o = others-balance s r (stateOf s t) some y q x e (k .within) in rw (there r e, b .mem) (simp counts (omega arith))
-
-      pub step-at : StepAt s t fronts l (saysOf (level l) (counted f) a)
-      unfolding stepSized stepServed stepFrame
-      step-at =
-          let e = sym (frame-is s t l low) in
-          let done = performed-is s l low t m q (stateOf s t) (counted f) x (k .within) in
-          record {
-            table = done .0;
-            is =
-                rw (serving-is s t l (s .levels) low run top)
-                (ap (λ (g : Frame). stepFrame s t (level l) (counted g)) e ∙ rw (sound-is s f (k .op) (k .point) somewhere) (done .1));
-            bridged = done .2;
-            keeps = took-from (done .0) (done .2);
-            linked = k .linked;
-          }
-
-    -- a step of a table in which all queues are sound
-    pub step-taken : Outcome s t fronts
-    unfolding stepSized stepServed
-    step-taken = by (serving s t (s .levels)) refl (served s t (s .levels))
+    -- only a dequeue comes to D7
+    dequeues : pointOf (counted f .point) ≡ D7 → counted f .op ≡ 2
+    unfolding counted
+    dequeues e =
+        let o = k .op in
+        let p = number-D7 (f .point) e in
+        by (eqb (f .op) 1) (same? (f .op) 1)
       where
-        by : (v : Served) → serving s t (s .levels) ≡ v → Serves s t (s .levels) v → Outcome s t fronts
-        by v e (nobody h) = idle (rw e) (λ j. frame-idle s t j (h j))
-        by v e (serves l low run top) = let k = step-at l low run top in took _ (k .table) (k .is) (k .keeps)
+        by : (b : Bool) → Same (f .op) 1 b → f .op ≡ 2
+        by true (same z) = absurd (omega (arith, k .point z, number-D7 (f .point) e))
+        by false (apart z) = let o = k .op in let r = running .0 in omega arith
+
+    took-from : (u : List ℕ) → Bridged s t u l (counted f) x → Keeps s t fronts (λ r. returnedByStep r (saysOf (level l) (counted f) a)) (λ r. []) u
+    unfolding counted
+    took-from u b =
+        record { sized = b .sized; fronts′ = k .fronts′; world = rw state (k .world); begins = begins; balance = balance }
+      where
+        state : stateOf s u ≡ stepped (s .levels) l (stateOf s t)
+        state = λ i. record { mem = b .mem i; frames = b .frames-are i }
+
+        given : Step
+        given = saysOf (level l) (counted f) a
+
+        here : returnedByStep q given ≡ outOf x
+        here = returns-out (level l) (memory s t) (counted f) s q (stateOf s t) (pointOf (f .point)) x (k .within) plain refl dequeues
+
+        there : (r : ℕ) → r ≢ q → returnedByStep r given ≡ []
+        there r ne = returns-none (level l) (memory s t) (counted f) r a (λ e. ne (sym e))
+
+        begins : (r : ℕ) → Beginning (fronts r) (returnedByStep r given ++ k .fronts′ r)
+        begins r = by (eqb r q) (same? r q)
+          where
+            by : (c : Bool) → Same r q c → Beginning (fronts r) (returnedByStep r given ++ k .fronts′ r)
+            by true (same e) = rw (e, here) (k .begins)
+            by false (apart e) = rw (there r e, k .others r e) (begins-same (fronts r))
+
+        balance : (r : ℕ) → 1 ≤ r → (y : ℕ)
+            → own (s .queues) (memory s u .uses) r y + cnt y (returnedByStep r given) ≡ own (s .queues) (memory s t .uses) r y + cnt y []
+        balance r some y = by (eqb r q) (same? r q)
+          where
+            by : (c : Bool) → Same r q c
+                → own (s .queues) (memory s u .uses) r y + cnt y (returnedByStep r given) ≡ own (s .queues) (memory s t .uses) r y + cnt y []
+            by true (same e) = let o = out-balance s q (stateOf s t) (somewhere .0) y x (k .within) in rw (e, here, b .mem) (simp counts (omega arith))
+            by false (apart e) =
+                let o = others-balance s r (stateOf s t) some y q x e (k .within) in rw (there r e, b .mem) (simp counts (omega arith))
+
+    pub step-at : StepAt s t fronts l (saysOf (level l) (counted f) a)
+    unfolding stepSized stepServed stepFrame
+    step-at =
+        let e = sym (frame-is s t l low) in
+        let done = performed-is s l low t m q (stateOf s t) (counted f) x (k .within) in
+        record {
+          table = done .0;
+          is =
+              rw (serving-is s t l (s .levels) low run top)
+              (ap (λ (g : Frame). stepFrame s t (level l) (counted g)) e ∙ rw (sound-is s f (k .op) (k .point) somewhere) (done .1));
+          bridged = done .2;
+          keeps = took-from (done .0) (done .2);
+          linked = k .linked;
+        }
+
+  -- a step of a table in which all queues are sound
+  pub step-taken : Outcome s t fronts
+  unfolding stepSized stepServed
+  step-taken = by (serving s t (s .levels)) refl (served s t (s .levels))
+    where
+      by : (v : Served) → serving s t (s .levels) ≡ v → Serves s t (s .levels) v → Outcome s t fronts
+      by v e (nobody h) = idle (rw e) (λ j. frame-idle s t j (h j))
+      by v e (serves l low run top) = let k = step-at l low run top in took _ (k .table) (k .is) (k .keeps)

@@ -22,28 +22,14 @@ use Rattle.chains.specs.Seg.{Seg}
 use Rattle.state.specs.Mem.{put, put-same, put-other, upd}
 use Rattle.state.specs.Step.{State, memAfter, rowOf, stepped}
 use Rattle.state.specs.Queues.{On, own, Within, load, store, free, outOf, Apart}
+use Rattle.invariant.specs.Sound.{Sound}
+use Rattle.invariant.specs.Step.{Stepping, sound-step}
+use Rattle.invariant.specs.Begin.{sound-enqueue, sound-dequeue}
+use Rattle.invariant.specs.Others.{sound-apart}
 use Rattle.demand.proofs.Rows.{nextFrame, next-frame}
 use Rattle.demand.proofs.Apart.{own-use, apart-step, apart-dequeue, apart-enqueue}
 
--- ---- what is needed of one queue's invariant; the last list is the queue's frozen beginning
-
--- what a step of the frame at level l on queue q does, where Sound is q's invariant
-pub record Stepping (s : Sizes) (q : ℕ) (S : State) (l : ℕ) (front : List ℕ) (Sound : State → List ℕ → Type 0) : Type 0 where
-  pub op : S .frames l .op ≤ 2
-  pub point : S .frames l .op ≡ 1 → S .frames l .point < 31
-  pub within : Within s q S (rowOf (s .levels) l (S .frames l))
-  pub front′ : List ℕ
-  pub sound : Sound (stepped (s .levels) l S) front′
-  pub begins : Beginning front (outOf (rowOf (s .levels) l (S .frames l)) ++ front′)
-  pub linked : S .frames l .point ≡ numberOf D3 → S .mem .next (S .frames l .c .0) ≢ 0
-
--- a quiet queue: its nodes in a chain from head to tail
-pub record Chained (s : Sizes) (q : ℕ) (S : State) (front : List ℕ) : Type 0 where
-  pub nodes : List ℕ
-  pub linked : Seg (S .mem .next) (S .mem .head q) nodes 0
-  pub ends : Last (S .mem .tail q) nodes
-  pub once : (x : ℕ) → cnt x nodes ≡ own (s .queues) (S .mem .uses) q x
-  pub front-is : front ≡ without q nodes
+-- ---- begins
 
 -- the frames from level l on run nothing
 abbrev pub IdleFrom : ℕ → State → Type 0
@@ -57,154 +43,137 @@ enqueueBegun S l q n =
 abbrev pub dequeueBegun : State → ℕ → ℕ → State
 dequeueBegun S l q = record { mem = S .mem; frames = put (S .frames) l (begun 2 D1 (queue q) (node 0)) }
 
-pub record Invariant : Type 1 where
-  pub Sound : Sizes → ℕ → State → List ℕ → Type 0
-  pub apart : (s : Sizes) (q : ℕ) (S T : State) (front : List ℕ) → Apart s q S T → Sound s q S front → Sound s q T front
-  pub registered : (s : Sizes) (q : ℕ) (S : State) (front : List ℕ) → Sound s q S front → (j : ℕ) → S .mem .lq j ≡ q → On q (S .frames j)
-  pub step : (s : Sizes) (q : ℕ) (S : State) (front : List ℕ) → Sound s q S front → (l : ℕ) → l < s .levels → On q (S .frames l)
-      → ((j : ℕ) → l < j → S .frames j .op ≡ 0) → Stepping s q S l front (Sound s q)
-  -- a begin at level l, where no frame runs from there on: an enqueue of a free node that points to none, a dequeue where no other dequeue is on q
-  pub enqueue : (s : Sizes) (q : ℕ) (S : State) (front : List ℕ) → Sound s q S front → (l n : ℕ) → l < s .levels → IdleFrom l S → s .queues < n
-      → n ≤ s .nodes → S .mem .uses n ≡ 0 → S .mem .next n ≡ 0 → Sound s q (enqueueBegun S l q n) front
-  pub dequeue : (s : Sizes) (q : ℕ) (S : State) (front : List ℕ) → Sound s q S front → (l : ℕ) → l < s .levels → IdleFrom l S
-      → ((j : ℕ) → S .frames j .op ≡ 2 → S .frames j .queue .0 ≢ q) → Sound s q (dequeueBegun S l q) front
-  -- a queue on which no frame runs
-  pub quiet : (s : Sizes) (q : ℕ) (S : State) (front : List ℕ) → Sound s q S front → ((j : ℕ) → ¬ On q (S .frames j)) → Chained s q S front
-  pub start : (s : Sizes) (q : ℕ) (S : State) (front : List ℕ) → 1 ≤ q → q ≤ s .queues → s .queues ≤ s .nodes → ((j : ℕ) → ¬ On q (S .frames j))
-      → ((j : ℕ) → S .mem .lq j ≢ q) → ((n : ℕ) → s .nodes < n → S .mem .uses n ≡ 0) → Chained s q S front → Sound s q S front
-
 -- ---- all queues
 
-module _ (I : Invariant) where
-  pub record World (s : Sizes) (S : State) (fronts : ℕ → List ℕ) : Type 0 where
-    pub sound : (q : ℕ) → 1 ≤ q → q ≤ s .queues → I .Sound s q S (fronts q)
-    -- a frame that runs is on one of the queues
-    pub on-some : (j : ℕ) → S .frames j .op ≢ 0 → (1 ≤ S .frames j .queue .0) × (S .frames j .queue .0 ≤ s .queues)
-    -- a free node points to none
-    pub free-ends : (n : ℕ) → s .queues < n → S .mem .uses n ≡ 0 → S .mem .next n ≡ 0
+pub record World (s : Sizes) (S : State) (fronts : ℕ → List ℕ) : Type 0 where
+  pub sound : (q : ℕ) → 1 ≤ q → q ≤ s .queues → Sound s q S (fronts q)
+  -- a frame that runs is on one of the queues
+  pub on-some : (j : ℕ) → S .frames j .op ≢ 0 → (1 ≤ S .frames j .queue .0) × (S .frames j .queue .0 ≤ s .queues)
+  -- a free node points to none
+  pub free-ends : (n : ℕ) → s .queues < n → S .mem .uses n ≡ 0 → S .mem .next n ≡ 0
 
-  -- a step of the frame at level l
-  pub record Moving (s : Sizes) (S : State) (fronts : ℕ → List ℕ) (l : ℕ) (q : ℕ) : Type 0 where
-    pub op : S .frames l .op ≤ 2
-    pub point : S .frames l .op ≡ 1 → S .frames l .point < 31
-    pub within : Within s q S (rowOf (s .levels) l (S .frames l))
-    pub fronts′ : ℕ → List ℕ
-    pub world : World s (stepped (s .levels) l S) fronts′
-    pub begins : Beginning (fronts q) (outOf (rowOf (s .levels) l (S .frames l)) ++ fronts′ q)
-    pub others : (r : ℕ) → r ≢ q → fronts′ r ≡ fronts r
-    pub linked : S .frames l .point ≡ numberOf D3 → S .mem .next (S .frames l .c .0) ≢ 0
+-- a step of the frame at level l
+pub record Moving (s : Sizes) (S : State) (fronts : ℕ → List ℕ) (l : ℕ) (q : ℕ) : Type 0 where
+  pub op : S .frames l .op ≤ 2
+  pub point : S .frames l .op ≡ 1 → S .frames l .point < 31
+  pub within : Within s q S (rowOf (s .levels) l (S .frames l))
+  pub fronts′ : ℕ → List ℕ
+  pub world : World s (stepped (s .levels) l S) fronts′
+  pub begins : Beginning (fronts q) (outOf (rowOf (s .levels) l (S .frames l)) ++ fronts′ q)
+  pub others : (r : ℕ) → r ≢ q → fronts′ r ≡ fronts r
+  pub linked : S .frames l .point ≡ numberOf D3 → S .mem .next (S .frames l .c .0) ≢ 0
 
-  pub world-step : (s : Sizes) (S : State) (fronts : ℕ → List ℕ) → World s S fronts → (l q : ℕ) → l < s .levels → On q (S .frames l)
-      → ((j : ℕ) → l < j → S .frames j .op ≡ 0) → Moving s S fronts l q
-  world-step s S fronts w l q low on top =
-      record {
-        op = k .op;
-        point = k .point;
-        within = k .within;
-        fronts′ = put fronts q (k .front′);
-        world = record { sound = sound; on-some = on-some; free-ends = free-ends (rowOf (s .levels) l f) (k .within) };
-        begins = rw (put-same fronts q (k .front′)) (k .begins);
-        others = λ r ne. put-other fronts q (k .front′) r ne;
-        linked = k .linked;
-      }
-    where
-      f : Frame
-      f = S .frames l
+pub world-step : (s : Sizes) (S : State) (fronts : ℕ → List ℕ) → World s S fronts → (l q : ℕ) → l < s .levels → On q (S .frames l)
+    → ((j : ℕ) → l < j → S .frames j .op ≡ 0) → Moving s S fronts l q
+world-step s S fronts w l q low on top =
+    record {
+      op = k .op;
+      point = k .point;
+      within = k .within;
+      fronts′ = put fronts q (k .front′);
+      world = record { sound = sound; on-some = on-some; free-ends = free-ends (rowOf (s .levels) l f) (k .within) };
+      begins = rw (put-same fronts q (k .front′)) (k .begins);
+      others = λ r ne. put-other fronts q (k .front′) r ne;
+      linked = k .linked;
+    }
+  where
+    f : Frame
+    f = S .frames l
 
-      here : (1 ≤ q) × (q ≤ s .queues)
-      here = rw (on .1) at (w .on-some l (on .0))
+    here : (1 ≤ q) × (q ≤ s .queues)
+    here = rw (on .1) at (w .on-some l (on .0))
 
-      k : Stepping s q S l (fronts q) (I .Sound s q)
-      k = I .step s q S (fronts q) (w .sound q (here .0) (here .1)) l low on top
+    k : Stepping s q S l (fronts q)
+    k = sound-step s q S (fronts q) (w .sound q (here .0) (here .1)) l low on top
 
-      T : State
-      T = stepped (s .levels) l S
+    T : State
+    T = stepped (s .levels) l S
 
-      sound : (r : ℕ) → 1 ≤ r → r ≤ s .queues → I .Sound s r T (put fronts q (k .front′) r)
-      sound r a b = by (eqb r q) (same? r q)
-        where
-          by : (t : Bool) → Same r q t → I .Sound s r T (put fronts q (k .front′) r)
-          by true (same e) = rw (e, put-same fronts q (k .front′)) (k .sound)
-          by false (apart e) =
-              rw (put-other fronts q (k .front′) r e)
-              (I .apart s r S T (fronts r)
-              (apart-step s r q S a e (I .registered s r S (fronts r) (w .sound r a b)) (s .levels) l on (k .within))
-              (w .sound r a b))
-
-      on-some : (j : ℕ) → T .frames j .op ≢ 0 → (1 ≤ T .frames j .queue .0) × (T .frames j .queue .0 ≤ s .queues)
-      on-some j run = by (eqb j l) (same? j l)
-        where
-          g : Frame
-          g = nextFrame (S .mem) (s .levels) l f
-
-          moved : (g .op ≡ 0) ⊎ ((g .op ≡ f .op) × (g .queue ≡ f .queue)) → g .op ≢ 0 → (1 ≤ g .queue .0) × (g .queue .0 ≤ s .queues)
-          moved (inl e) r = absurd (r e)
-          moved (inr e) r = rw (ap (λ (u : Queue). u .0) (e .1)) (w .on-some l (on .0))
-
-          by : (t : Bool) → Same j l t → (1 ≤ put (S .frames) l g j .queue .0) × (put (S .frames) l g j .queue .0 ≤ s .queues)
-          by true (same e) =
-              rw (e, put-same (S .frames) l g) (moved (next-frame (S .mem) (s .levels) l f) (rw (e, put-same (S .frames) l g) at run))
-          by false (apart e) = rw (put-other (S .frames) l g j e) (w .on-some j (rw (put-other (S .frames) l g j e) at run))
-
-      free-ends : (x : Row) → Within s q S x → (n : ℕ) → s .queues < n → memAfter (S .mem) x .uses n ≡ 0 → memAfter (S .mem) x .next n ≡ 0
-      free-ends x (load b) n h u = w .free-ends n h u
-      free-ends x (store {w = LevelNode j} b m) n h u = w .free-ends n h u
-      free-ends x (store {w = LevelQueue j} b m) n h u = w .free-ends n h u
-      free-ends x (store {w = Head j} b m) n h u = w .free-ends n h u
-      free-ends x (store {w = Tail j} b m) n h u = w .free-ends n h u
-      free-ends x (store {w = Next j} {v = v} b m) n h u =
-          put-other (S .mem .next) (j .0) v n (λ e. omega (arith, own-use (s .queues) (S .mem .uses) q n h (rw e m), here, u)) ∙ w .free-ends n h u
-      free-ends x (store {w = Use j} b m) n h u = absurd m
-      free-ends x (free {n = j} low high o) n h u = by (eqb n (j .0)) (same? n (j .0))
-        where
-          by : (t : Bool) → Same n (j .0) t → put (S .mem .next) (j .0) 0 n ≡ 0
-          by true (same e) = rw (e, put-same (S .mem .next) (j .0) 0)
-          by false (apart e) =
-              put-other (S .mem .next) (j .0) 0 n e ∙ w .free-ends n h (sym (put-other (S .mem .uses) (j .0) 0 n e) ∙ u)
-
-  -- a begin on queue q at level l
-  module _ (s : Sizes) (S : State) (fronts : ℕ → List ℕ) (w : World s S fronts) (l q : ℕ) (low : l < s .levels) (idle : IdleFrom l S)
-      (some : 1 ≤ q) (known : q ≤ s .queues) where
-    nobody : (r : ℕ) → ¬ On r (S .frames l)
-    nobody r h = h .0 (idle l (omega arith))
-
-    -- for all queues, where it holds for q, and nothing of another queue moved
-    begun-sound : (T : State) → I .Sound s q T (fronts q) → ((r : ℕ) → 1 ≤ r → r ≢ q → ((j : ℕ) → S .mem .lq j ≡ r → On r (S .frames j)) → Apart s r S T)
-        → (r : ℕ) → 1 ≤ r → r ≤ s .queues → I .Sound s r T (fronts r)
-    begun-sound T here there r a b = by (eqb r q) (same? r q)
+    sound : (r : ℕ) → 1 ≤ r → r ≤ s .queues → Sound s r T (put fronts q (k .front′) r)
+    sound r a b = by (eqb r q) (same? r q)
       where
-        by : (t : Bool) → Same r q t → I .Sound s r T (fronts r)
-        by true (same e) = rw e here
+        by : (t : Bool) → Same r q t → Sound s r T (put fronts q (k .front′) r)
+        by true (same e) = rw (e, put-same fronts q (k .front′)) (k .sound)
         by false (apart e) =
-            I .apart s r S T (fronts r) (there r a e (I .registered s r S (fronts r) (w .sound r a b))) (w .sound r a b)
+            rw (put-other fronts q (k .front′) r e)
+            (sound-apart s r S T
+            (apart-step s r q S a e (w .sound r a b .registered) (s .levels) l on (k .within))
+            (fronts r) (w .sound r a b))
 
-    begun-on : (f : Frame) → f .queue .0 ≡ q → (j : ℕ) → put (S .frames) l f j .op ≢ 0
-        → (1 ≤ put (S .frames) l f j .queue .0) × (put (S .frames) l f j .queue .0 ≤ s .queues)
-    begun-on f e j run = by (eqb j l) (same? j l)
+    on-some : (j : ℕ) → T .frames j .op ≢ 0 → (1 ≤ T .frames j .queue .0) × (T .frames j .queue .0 ≤ s .queues)
+    on-some j run = by (eqb j l) (same? j l)
       where
-        by : (t : Bool) → Same j l t → (1 ≤ put (S .frames) l f j .queue .0) × (put (S .frames) l f j .queue .0 ≤ s .queues)
-        by true (same z) = rw (z, put-same (S .frames) l f, e) (some, known)
-        by false (apart z) = rw (put-other (S .frames) l f j z) (w .on-some j (rw (put-other (S .frames) l f j z) at run))
+        g : Frame
+        g = nextFrame (S .mem) (s .levels) l f
 
-    pub world-enqueue : (n : ℕ) → s .queues < n → n ≤ s .nodes → S .mem .uses n ≡ 0 → World s (enqueueBegun S l q n) fronts
-    world-enqueue n user real unused =
-        record {
-          sound =
-              begun-sound (enqueueBegun S l q n)
-              (I .enqueue s q S (fronts q) (w .sound q some known) l n low idle user real unused (w .free-ends n user unused))
-              (λ r a e reg. apart-enqueue s r q S a e reg l n (begun 1 E1 (queue q) (node n)) (nobody r) (omega arith, refl) unused);
-          on-some = begun-on (begun 1 E1 (queue q) (node n)) refl;
-          free-ends =
-              λ m h u. w .free-ends m h
-              (sym (put-other (S .mem .uses) n q m (λ e. omega (arith, sym (put-same (S .mem .uses) n q) ∙ sym (ap (put (S .mem .uses) n q) e) ∙ u))) ∙ u);
-        }
+        moved : (g .op ≡ 0) ⊎ ((g .op ≡ f .op) × (g .queue ≡ f .queue)) → g .op ≢ 0 → (1 ≤ g .queue .0) × (g .queue .0 ≤ s .queues)
+        moved (inl e) r = absurd (r e)
+        moved (inr e) r = rw (ap (λ (u : Queue). u .0) (e .1)) (w .on-some l (on .0))
 
-    pub world-dequeue : ((j : ℕ) → S .frames j .op ≡ 2 → S .frames j .queue .0 ≢ q) → World s (dequeueBegun S l q) fronts
-    world-dequeue only =
-        record {
-          sound =
-              begun-sound (dequeueBegun S l q) (I .dequeue s q S (fronts q) (w .sound q some known) l low idle only)
-              (λ r a e reg. apart-dequeue s r q S a e reg l (begun 2 D1 (queue q) (node 0)) (nobody r) (omega arith, refl));
-          on-some = begun-on (begun 2 D1 (queue q) (node 0)) refl;
-          free-ends = w .free-ends;
-        }
+        by : (t : Bool) → Same j l t → (1 ≤ put (S .frames) l g j .queue .0) × (put (S .frames) l g j .queue .0 ≤ s .queues)
+        by true (same e) =
+            rw (e, put-same (S .frames) l g) (moved (next-frame (S .mem) (s .levels) l f) (rw (e, put-same (S .frames) l g) at run))
+        by false (apart e) = rw (put-other (S .frames) l g j e) (w .on-some j (rw (put-other (S .frames) l g j e) at run))
+
+    free-ends : (x : Row) → Within s q S x → (n : ℕ) → s .queues < n → memAfter (S .mem) x .uses n ≡ 0 → memAfter (S .mem) x .next n ≡ 0
+    free-ends x (load b) n h u = w .free-ends n h u
+    free-ends x (store {w = LevelNode j} b m) n h u = w .free-ends n h u
+    free-ends x (store {w = LevelQueue j} b m) n h u = w .free-ends n h u
+    free-ends x (store {w = Head j} b m) n h u = w .free-ends n h u
+    free-ends x (store {w = Tail j} b m) n h u = w .free-ends n h u
+    free-ends x (store {w = Next j} {v = v} b m) n h u =
+        put-other (S .mem .next) (j .0) v n (λ e. omega (arith, own-use (s .queues) (S .mem .uses) q n h (rw e m), here, u)) ∙ w .free-ends n h u
+    free-ends x (store {w = Use j} b m) n h u = absurd m
+    free-ends x (free {n = j} low high o) n h u = by (eqb n (j .0)) (same? n (j .0))
+      where
+        by : (t : Bool) → Same n (j .0) t → put (S .mem .next) (j .0) 0 n ≡ 0
+        by true (same e) = rw (e, put-same (S .mem .next) (j .0) 0)
+        by false (apart e) =
+            put-other (S .mem .next) (j .0) 0 n e ∙ w .free-ends n h (sym (put-other (S .mem .uses) (j .0) 0 n e) ∙ u)
+
+-- a begin on queue q at level l
+module _ (s : Sizes) (S : State) (fronts : ℕ → List ℕ) (w : World s S fronts) (l q : ℕ) (low : l < s .levels) (idle : IdleFrom l S)
+    (some : 1 ≤ q) (known : q ≤ s .queues) where
+  nobody : (r : ℕ) → ¬ On r (S .frames l)
+  nobody r h = h .0 (idle l (omega arith))
+
+  -- for all queues, where it holds for q, and nothing of another queue moved
+  begun-sound : (T : State) → Sound s q T (fronts q) → ((r : ℕ) → 1 ≤ r → r ≢ q → ((j : ℕ) → S .mem .lq j ≡ r → On r (S .frames j)) → Apart s r S T)
+      → (r : ℕ) → 1 ≤ r → r ≤ s .queues → Sound s r T (fronts r)
+  begun-sound T here there r a b = by (eqb r q) (same? r q)
+    where
+      by : (t : Bool) → Same r q t → Sound s r T (fronts r)
+      by true (same e) = rw e here
+      by false (apart e) =
+          sound-apart s r S T (there r a e (w .sound r a b .registered)) (fronts r) (w .sound r a b)
+
+  begun-on : (f : Frame) → f .queue .0 ≡ q → (j : ℕ) → put (S .frames) l f j .op ≢ 0
+      → (1 ≤ put (S .frames) l f j .queue .0) × (put (S .frames) l f j .queue .0 ≤ s .queues)
+  begun-on f e j run = by (eqb j l) (same? j l)
+    where
+      by : (t : Bool) → Same j l t → (1 ≤ put (S .frames) l f j .queue .0) × (put (S .frames) l f j .queue .0 ≤ s .queues)
+      by true (same z) = rw (z, put-same (S .frames) l f, e) (some, known)
+      by false (apart z) = rw (put-other (S .frames) l f j z) (w .on-some j (rw (put-other (S .frames) l f j z) at run))
+
+  pub world-enqueue : (n : ℕ) → s .queues < n → n ≤ s .nodes → S .mem .uses n ≡ 0 → World s (enqueueBegun S l q n) fronts
+  world-enqueue n user real unused =
+      record {
+        sound =
+            begun-sound (enqueueBegun S l q n)
+            (sound-enqueue s q S (fronts q) (w .sound q some known) l n low idle user real unused (w .free-ends n user unused))
+            (λ r a e reg. apart-enqueue s r q S a e reg l n (begun 1 E1 (queue q) (node n)) (nobody r) (omega arith, refl) unused);
+        on-some = begun-on (begun 1 E1 (queue q) (node n)) refl;
+        free-ends =
+            λ m h u. w .free-ends m h
+            (sym (put-other (S .mem .uses) n q m (λ e. omega (arith, sym (put-same (S .mem .uses) n q) ∙ sym (ap (put (S .mem .uses) n q) e) ∙ u))) ∙ u);
+      }
+
+  pub world-dequeue : ((j : ℕ) → S .frames j .op ≡ 2 → S .frames j .queue .0 ≢ q) → World s (dequeueBegun S l q) fronts
+  world-dequeue only =
+      record {
+        sound =
+            begun-sound (dequeueBegun S l q) (sound-dequeue s q S (fronts q) (w .sound q some known) l low idle only)
+            (λ r a e reg. apart-dequeue s r q S a e reg l (begun 2 D1 (queue q) (node 0)) (nobody r) (omega arith, refl));
+        on-some = begun-on (begun 2 D1 (queue q) (node 0)) refl;
+        free-ends = w .free-ends;
+      }

@@ -146,15 +146,15 @@ module _ (top : ℕ) (next : ℕ → ℕ) (tail o t s : ℕ) (w : List ℕ) (g :
 module _ (top q : ℕ) (v : View) (l : ℕ) (g : Regs) where
   pub data Here : Point → Item → Stack → Bool → Bool → Type 0 where
     is-loose : {p : Point} {ins outs : List ℕ} {st : Stack} {b : Bool}
-      → v .lq l ≢ q → Loose q (v .next) (v .ln l) (v .head) (v .settled) g p ins outs → Here p (loose ins outs) st b b
+        → v .lq l ≢ q → Loose q (v .next) (v .ln l) (v .head) (v .settled) g p ins outs → Here p (loose ins outs) st b b
     -- tail is the node that its level shows: all that is left is to take itself off
     is-done : {st : Stack} → v .lq l ≡ q → v .ln l ≡ v .tail → origin top st ≡ top → Here E28 (loose [] []) st false true
     is-owner : {p : Point} {x : List ℕ} {st : Stack} {b : Bool}
-      → v .lq l ≡ q → v .ln l ≡ g .n → Hot top (v .next) (origin top st) (start (v .tail) st) (follow st) x
-      → Unlinked top q l (v .ln) (v .lq) (v .next) (v .tail) (origin top st) (start (v .tail) st) (follow st) x (lists st) b g p
-      → Here p (owner (g .n) x) st b false
+        → v .lq l ≡ q → v .ln l ≡ g .n → Hot top (v .next) (origin top st) (start (v .tail) st) (follow st) x
+        → Unlinked top q l (v .ln) (v .lq) (v .next) (v .tail) (origin top st) (start (v .tail) st) (follow st) x (lists st) b g p
+        → Here p (owner (g .n) x) st b false
     is-mark : {p : Point} {s : ℕ} {w : List ℕ} {st : Stack}
-      → v .lq l ≡ q → v .ln l ≡ s → Linked top (v .next) (v .tail) (origin top st) (follow st) s w g p → Here p (mark s w) st false false
+        → v .lq l ≡ q → v .ln l ≡ s → Linked top (v .next) (v .tail) (origin top st) (follow st) s w g p → Here p (mark s w) st false false
 
 -- ---- all of them
 
@@ -169,4 +169,4 @@ module _ (top q : ℕ) (v : View) (fr : ℕ → Frame) where
   pub data Pile : ℕ → Stack → Bool → Type 0 where
     bottom : {n : ℕ} → Pile n floor false
     upon : {n l : ℕ} {p : Point} {i : Item} {st : Stack} {b b′ : Bool}
-      → l < n → Works q (fr l) → pointOf (fr l .point) ≡ p → Here top q v l (regs (fr l)) p i st b b′ → Pile l st b → Pile n (push l i st) b′
+        → l < n → Works q (fr l) → pointOf (fr l .point) ≡ p → Here top q v l (regs (fr l)) p i st b b′ → Pile l st b → Pile n (push l i st) b′
