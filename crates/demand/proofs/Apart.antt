@@ -1,11 +1,11 @@
 -- The queues are apart: a step or a begin on one queue moves nothing of another.
-use Prim.Native.Nat.{ℕ, _+_, _≤_, _<_}
+use Prim.Native.Nat.{ℕ, _≤_, _<_}
 use mathlib.Core.Path.{_≡_, refl, sym, ap, _∙_}
 use mathlib.Core.Logic.{_≢_, _⊎_, inl, inr}
 use mathlib.Core.Bool.{Bool, true, false, cond}
 use native.Mathlib.Omega.{arith}
 use lib.Dec.{ltb, eqb}
-use borrow.Author.Tests.{eq-eqb, ne-eqb, ltb-false, lt-ltb}
+use borrow.Author.Tests.{ne-eqb, lt-ltb}
 use Rattle.words.specs.declared.Sizes.{Sizes}
 use Rattle.words.specs.declared.Frame.{Frame}
 use Rattle.words.specs.declared.Word.{Word}
@@ -55,29 +55,6 @@ own-put Q u q n v h k x = by (ltb Q x) (eqb x n) (same? x n)
     by false b s = refl
     by true false s = refl
     by true true (same e) = ap hit (ne-eqb v q k ∙ sym (ne-eqb (u x) q (λ z. h (sym (ap u e) ∙ z))))
-
--- a node that is freed, and one that is handed to the queue
-pub own-freed : (Q : ℕ) (u : ℕ → ℕ) (q n : ℕ) → 1 ≤ q → Q < n → u n ≡ q → (y : ℕ) → own Q (put u n 0) q y + hit (eqb y n) ≡ own Q u q y
-unfolding own put
-own-freed Q u q n some h e y = by (ltb Q y) refl (eqb y n) (same? y n)
-  where
-    by : (a : Bool) → ltb Q y ≡ a → (b : Bool) → Same y n b
-        → cond a (hit (eqb (cond b 0 (u y)) q)) (hit (eqb y q)) + hit b ≡ cond a (hit (eqb (u y) q)) (hit (eqb y q))
-    by a l false s = omega arith
-    by true l true (same z) =
-        rw (ne-eqb 0 q (λ k. omega arith)) (sym (ap hit (eq-eqb (u y) q (ap u z ∙ e))))
-    by false l true (same z) = absurd (omega (arith, ltb-false Q y l))
-
-pub own-handed : (Q : ℕ) (u : ℕ → ℕ) (q n : ℕ) → 1 ≤ q → Q < n → u n ≡ 0 → (y : ℕ) → own Q (put u n q) q y ≡ own Q u q y + hit (eqb y n)
-unfolding own put
-own-handed Q u q n some h e y = by (ltb Q y) refl (eqb y n) (same? y n)
-  where
-    by : (a : Bool) → ltb Q y ≡ a → (b : Bool) → Same y n b
-        → cond a (hit (eqb (cond b q (u y)) q)) (hit (eqb y q)) ≡ cond a (hit (eqb (u y) q)) (hit (eqb y q)) + hit b
-    by a l false s = omega arith
-    by true l true (same z) =
-        let k : eqb (u y) q ≡ false = ne-eqb (u y) q (λ k. omega (arith, ap u z ∙ e)) in rw (eq-eqb q q refl, k)
-    by false l true (same z) = absurd (omega (arith, ltb-false Q y l))
 
 -- ---- memory
 

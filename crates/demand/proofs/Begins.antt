@@ -23,12 +23,13 @@ use Rattle.conditions.specs.declared.Sought.the-variants.{Running, DequeueOn}
 use Rattle.conditions.specs.Conditions.{sought, some, noNode, busy, inUse, dequeued}
 use Rattle.begins.specs.Begin.{begun, unless, enqueueWhy, enqueueSized, enqueueMeasured, enqueueOf, dequeueWhy, dequeueSized, dequeueMeasured, dequeueOf}
 use Rattle.begins.specs.Laws.{enqueues, dequeues}
-use Rattle.lists.specs.Count.{Same, same, apart, same?, cnt, counts}
+use Rattle.lists.specs.Count.{Same, same, apart, same?, cnt, cnt-nil, counts}
 use Rattle.lists.specs.Beginning.{begins-same}
 use Rattle.state.specs.Mem.{Mem, put, upd}
 use Rattle.state.specs.View.{memory, frames, look-rd, frame-is, frame-idle, memory-wr, frames-wr, memory-put, frames-put}
 use Rattle.state.specs.Queues.{own}
-use Rattle.demand.proofs.Apart.{own-put, own-handed}
+use Rattle.invariant.specs.Own.{own-begun}
+use Rattle.demand.proofs.Apart.{own-put}
 use Rattle.demand.proofs.World.{World, IdleFrom, enqueueBegun, world-enqueue, world-dequeue}
 use Rattle.demand.proofs.Bridge.{stateOf, has-is}
 use Rattle.demand.proofs.Keeps.{Keeps}
@@ -220,6 +221,6 @@ module _ (s : Sizes) (t : List ℕ) (fronts : ℕ → List ℕ) (m : measured t 
               by : (b : Bool) → Same (q .0) r b → own (s .queues) (put (memory s t .uses) (n .0) (q .0)) r y + cnt y []
                   ≡ own (s .queues) (memory s t .uses) r y + cnt y (cond b (n .0 ∷ []) [])
               by true (same e) =
-                  let o = own-handed (s .queues) (memory s t .uses) r (n .0) some (c .user) unused y in rw e (simp counts (omega arith))
+                  let o = own-begun (s .queues) (memory s t .uses) r (n .0) some (c .user) unused y in rw e (omega (arith, cnt-nil y))
               by false (apart e) =
                   let o = own-put (s .queues) (memory s t .uses) r (n .0) (q .0) (λ z. omega (arith, unused)) e y in simp counts (omega arith)

@@ -15,18 +15,19 @@ use Rattle.words.specs.declared.Frame.{Frame}
 use Rattle.words.specs.declared.Measured.the-variants.{Sized}
 use Rattle.words.specs.declared.Word.the-variants.{Head, Tail}
 use Rattle.words.specs.Layout.{level, within, measured, rd, frameOf}
-use Rattle.words.specs.Laws.{Bound, within-low, within-high, within-is, measured-limits}
+use Rattle.words.specs.Laws.{Bound, within-low, within-high, within-is}
 use Rattle.answers.specs.Said.{Said, refused, says}
 use Rattle.conditions.specs.declared.Sought.the-variants.{RunningOn}
 use Rattle.conditions.specs.Conditions.{sought, noQueue, unquiet}
 use Rattle.asks.specs.Quiet.{quietMeasured, quietOf}
 use Rattle.asks.specs.Listing.{nodesFrom, nodesOf, listed, listingSized, listingMeasured, listingOf}
-use Rattle.lists.specs.Count.{Same, same, apart, same?, hit, cnt, cnt-nil, cnt-self}
+use Rattle.lists.specs.Count.{cnt, cnt-nil, cnt-self}
 use Rattle.lists.specs.Beginning.{without, cnt-without}
 use Rattle.chains.specs.Seg.{Seg, stop, link}
-use Rattle.state.specs.View.{memory, frames, look-rd, frame-is, frame-idle, uses-past}
+use Rattle.state.specs.View.{memory, frames, look-rd, frame-is, frame-idle}
 use Rattle.state.specs.Queues.{On, own}
-use Rattle.invariant.specs.Sound.{Chained, quiet as at-rest}
+use Rattle.invariant.specs.Own.{own-le}
+use Rattle.invariant.specs.Sound.{Sound, Chained, quiet as at-rest}
 use Rattle.demand.proofs.World.{World}
 use Rattle.demand.proofs.Bridge.{stateOf, has-is, other-number}
 use Rattle.demand.proofs.Begins.{none-of}
@@ -75,41 +76,6 @@ quietly s t q m h = by (within 1 (s .queues) (q .0)) refl (unquiet s t q) refl (
 
 -- ---- the nodes of a queue
 
-own-cases : (s : Sizes) (t : List ℕ) (q x : ℕ) → 1 ≤ q → q ≤ s .queues → s .queues ≤ s .nodes → 0 < own (s .queues) (memory s t .uses) q x
-    → (1 ≤ x) × (x ≤ s .nodes)
-unfolding own
-own-cases s t q x a b c = by (ltb (s .queues) x) refl
-  where
-    hit-is : (y z : ℕ) → 0 < hit (eqb y z) → y ≡ z
-    hit-is y z h = at (eqb y z) (same? y z) h
-      where
-        at : (d : Bool) → Same y z d → 0 < hit d → y ≡ z
-        at true (same e) h = e
-        at false (apart e) h = absurd (omega arith)
-
-    by : (d : Bool) → ltb (s .queues) x ≡ d → 0 < cond d (hit (eqb (memory s t .uses x) q)) (hit (eqb x q)) → (1 ≤ x) × (x ≤ s .nodes)
-    by true e h =
-        let past = ltb-true (s .queues) x e in
-        let names = hit-is (memory s t .uses x) q h in
-        (omega arith, known (ltb (s .nodes) x) refl)
-      where
-        known : (d : Bool) → ltb (s .nodes) x ≡ d → x ≤ s .nodes
-        known true z = absurd (omega (arith, hit-is (memory s t .uses x) q h, uses-past s t x (ltb-true (s .nodes) x z)))
-        known false z = ltb-false (s .nodes) x z
-    by false e h = let z = hit-is x q h in omega arith
-
-own-le : (Q : ℕ) (u : ℕ → ℕ) (q x : ℕ) → own Q u q x ≤ 1
-unfolding own
-own-le Q u q x = by (ltb Q x)
-  where
-    one : (b : Bool) → hit b ≤ 1
-    one true = omega arith
-    one false = omega arith
-
-    by : (b : Bool) → cond b (hit (eqb (u x) q)) (hit (eqb x q)) ≤ 1
-    by true = one (eqb (u x) q)
-    by false = one (eqb x q)
-
 -- the sentinel is always its queue's
 pub own-sentinel : (Q : ℕ) (u : ℕ → ℕ) (q : ℕ) → q ≤ Q → own Q u q q ≡ 1
 unfolding own
@@ -124,12 +90,17 @@ starts q (link {x = x} {xs = xs} e r) held real z = omega (arith, real x (cnt-se
 
 module _ (s : Sizes) (t : List ℕ) (fronts : ℕ → List ℕ) (m : measured t ≡ Sized s) (w : World s (stateOf s t) fronts) (q : Queue)
     (quiet : Nobody s t q) where
+  sound : Sound s (q .0) (stateOf s t) (fronts (q .0))
+  sound = w .sound (q .0) (quiet .some-queue) (quiet .queue-known)
+
+  owned-real : (x : ℕ) → 0 < own (s .queues) (memory s t .uses) (q .0) x → (1 ≤ x) × (x ≤ s .nodes)
+  owned-real x h = let o = own-le (s .queues) (memory s t .uses) (q .0) x in sound .nodes x (omega arith)
+
   c : Chained s (q .0) (stateOf s t) (fronts (q .0))
-  c = at-rest s (q .0) (stateOf s t) (fronts (q .0)) (w .sound (q .0) (quiet .some-queue) (quiet .queue-known)) (quiet .nobody)
+  c = at-rest s (q .0) (stateOf s t) (fronts (q .0)) sound (quiet .nobody)
 
   known : (x : ℕ) → 0 < cnt x (c .nodes) → (1 ≤ x) × (x ≤ s .nodes)
-  known x h =
-      own-cases s t (q .0) x (quiet .some-queue) (quiet .queue-known) (measured-limits t s m .sentinels) (rw (c .once x) at h)
+  known x h = owned-real x (rw (c .once x) at h)
 
   once : (x : ℕ) → cnt x (c .nodes) ≤ 1
   once x = rw (c .once x) (own-le (s .queues) (memory s t .uses) (q .0) x)
@@ -174,7 +145,7 @@ module _ (s : Sizes) (t : List ℕ) (fronts : ℕ → List ℕ) (m : measured t 
     where
       real : (x : ℕ) (b : Bool) → 0 < cond b 0 (own (s .queues) (memory s t .uses) (q .0) x) → 1 ≤ x
       real x true h = absurd (omega arith)
-      real x false h = own-cases s t (q .0) x (quiet .some-queue) (quiet .queue-known) (measured-limits t s m .sentinels) h .0
+      real x false h = owned-real x h .0
 
       by : (ns : List ℕ) → ((x : ℕ) → 0 < cnt x ns → 1 ≤ x) → firstOf ns ≡ 0 → ns ≡ []
       by [] h e = refl
@@ -183,7 +154,7 @@ module _ (s : Sizes) (t : List ℕ) (fronts : ℕ → List ℕ) (m : measured t 
   pub off : (j : ℕ) → memory s t .lq j ≢ q .0
   off j e =
       quiet .nobody j
-      (w .sound (q .0) (quiet .some-queue) (quiet .queue-known) .registered j e)
+      (sound .registered j e)
 
   -- the listing call
   nodes-are : nodesOf s t q ≡ some (stillIn s t q)

@@ -34,7 +34,8 @@ use Rattle.state.specs.View.{memory, frames, frame-is, frame-idle}
 use Rattle.state.specs.Queues.{On, own, Mine, Within, load, store, free, outOf}
 use Rattle.demand.proofs.World.{World, Moving, world-step}
 use Rattle.demand.proofs.Rows.{Plain, goes, empty, handed, Plainly, row-plain, number-D7}
-use Rattle.demand.proofs.Apart.{own-use, own-put, own-freed}
+use Rattle.invariant.specs.Own.{own-freed}
+use Rattle.demand.proofs.Apart.{own-use, own-put}
 use Rattle.demand.proofs.Bridge.{stateOf, saysOf, Bridged, performed-is}
 use Rattle.demand.proofs.Keeps.{Keeps}
 use Rattle.demand.specs.History.{returnedAtEnd, returnedByStep}
@@ -171,8 +172,7 @@ module _ (s : Sizes) (q : ℕ) (S : State) (some : 1 ≤ q) (y : ℕ) where
   out-balance x (load b) = simp counts (omega arith)
   out-balance x (store {w = w} {v = v} b m) = rw (use-stored s q S w v m) (simp counts (omega arith))
   out-balance x (free {n = n} low high o) =
-      let e = own-freed (s .queues) (S .mem .uses) q (n .0) some low (own-use (s .queues) (S .mem .uses) q (n .0) low o) y in
-      simp counts (omega arith)
+      let e = own-freed (s .queues) (S .mem .uses) q (n .0) some low o y in omega arith
 
   others-balance : (r : ℕ) (x : Row) → q ≢ r → Within s r S x → owned (memAfter (S .mem) x) ≡ owned (S .mem)
   others-balance r x ne (load b) = refl

@@ -15,13 +15,11 @@ use Rattle.words.specs.Layout.{queue, node}
 use Rattle.table.specs.Table.{Row}
 use Rattle.table.specs.Points.{E1, D1, D3, numberOf}
 use Rattle.begins.specs.Begin.{begun}
-use Rattle.lists.specs.Count.{Same, same, apart, same?, cnt}
-use Rattle.lists.specs.Beginning.{Beginning, without}
-use Rattle.chains.specs.Member.{Last}
-use Rattle.chains.specs.Seg.{Seg}
+use Rattle.lists.specs.Count.{Same, same, apart, same?}
+use Rattle.lists.specs.Beginning.{Beginning}
 use Rattle.state.specs.Mem.{put, put-same, put-other, upd}
 use Rattle.state.specs.Step.{State, memAfter, rowOf, stepped}
-use Rattle.state.specs.Queues.{On, own, Within, load, store, free, outOf, Apart}
+use Rattle.state.specs.Queues.{On, Within, load, store, free, outOf, Apart}
 use Rattle.invariant.specs.Sound.{Sound}
 use Rattle.invariant.specs.Step.{Stepping, sound-step}
 use Rattle.invariant.specs.Begin.{sound-enqueue, sound-dequeue}
