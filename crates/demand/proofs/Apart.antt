@@ -70,9 +70,14 @@ record Kept (s : Sizes) (q : ℕ) (S : State) (M : Mem) : Type 0 where
   next : (x : ℕ) → own (s .queues) (S .mem .uses) q x ≡ 1 → M .next x ≡ S .mem .next x
   level : (j : ℕ) → LevelKept q S M j
 
+-- where no use word is different
+kept : {s : Sizes} {q : ℕ} {S : State} (M : Mem) → M .uses ≡ S .mem .uses → M .head q ≡ S .mem .head q → M .tail q ≡ S .mem .tail q
+    → ((x : ℕ) → own (s .queues) (S .mem .uses) q x ≡ 1 → M .next x ≡ S .mem .next x) → ((j : ℕ) → LevelKept q S M j) → Kept s q S M
+kept {s} {q} M u h t n l =
+    record { head = h; tail = t; owns = λ x. ap (λ (f : ℕ → ℕ). own (s .queues) f q x) u; next = n; level = l }
+
 kept-same : (s : Sizes) (q : ℕ) (S : State) → Kept s q S (S .mem)
-kept-same s q S =
-    record { head = refl; tail = refl; owns = λ x. refl; next = λ x h. refl; level = λ j. inl (refl, refl) }
+kept-same s q S = kept (S .mem) refl refl refl (λ x h. refl) (λ j. inl (refl, refl))
 
 -- frames, and what is registered, on another queue
 module _ (s : Sizes) (q r : ℕ) (S : State) (some : 1 ≤ q) (ne : q ≢ r) (reg : (j : ℕ) → S .mem .lq j ≡ q → On q (S .frames j)) where
@@ -95,51 +100,21 @@ module _ (s : Sizes) (q r : ℕ) (S : State) (some : 1 ≤ q) (ne : q ≢ r) (re
   -- a store that stays within the other queue
   kept-store : (w : Word) (v : ℕ) → Mine s r S w v → Kept s q S (upd (S .mem) w v)
   kept-store (LevelNode k) v m =
-      record {
-        head = refl;
-        tail = refl;
-        owns = λ x. refl;
-        next = λ x h. refl;
-        level =
-            λ j. level-moved (k .0) j (upd (S .mem) (LevelNode k) v) m (λ e. (put-other (S .mem .ln) (k .0) v j e, refl))
-            (λ e z. not-on (S .frames j) (rw e m) (reg j z));
-      }
+      kept (upd (S .mem) (LevelNode k) v) refl refl refl (λ x h. refl)
+      (λ j. level-moved (k .0) j (upd (S .mem) (LevelNode k) v) m (λ e. (put-other (S .mem .ln) (k .0) v j e, refl))
+      (λ e z. not-on (S .frames j) (rw e m) (reg j z)))
   kept-store (LevelQueue k) v m =
-      record {
-        head = refl;
-        tail = refl;
-        owns = λ x. refl;
-        next = λ x h. refl;
-        level =
-            λ j. level-moved (k .0) j (upd (S .mem) (LevelQueue k) v) (m .0) (λ e. (refl, put-other (S .mem .lq) (k .0) v j e))
-            (λ e z. not-named v (m .1) (sym (put-same (S .mem .lq) (k .0) v) ∙ sym (ap (put (S .mem .lq) (k .0) v) e) ∙ z));
-      }
+      kept (upd (S .mem) (LevelQueue k) v) refl refl refl (λ x h. refl)
+      (λ j. level-moved (k .0) j (upd (S .mem) (LevelQueue k) v) (m .0) (λ e. (refl, put-other (S .mem .lq) (k .0) v j e))
+      (λ e z. not-named v (m .1) (sym (put-same (S .mem .lq) (k .0) v) ∙ sym (ap (put (S .mem .lq) (k .0) v) e) ∙ z)))
   kept-store (Head k) v m =
-      record {
-        head = put-other (S .mem .head) (k .0) v q (λ e. ne (e ∙ m));
-        tail = refl;
-        owns = λ x. refl;
-        next = λ x h. refl;
-        level = λ j. inl (refl, refl);
-      }
+      kept (upd (S .mem) (Head k) v) refl (put-other (S .mem .head) (k .0) v q (λ e. ne (e ∙ m))) refl (λ x h. refl) (λ j. inl (refl, refl))
   kept-store (Tail k) v m =
-      record {
-        head = refl;
-        tail = put-other (S .mem .tail) (k .0) v q (λ e. ne (e ∙ m));
-        owns = λ x. refl;
-        next = λ x h. refl;
-        level = λ j. inl (refl, refl);
-      }
+      kept (upd (S .mem) (Tail k) v) refl refl (put-other (S .mem .tail) (k .0) v q (λ e. ne (e ∙ m))) (λ x h. refl) (λ j. inl (refl, refl))
   kept-store (Next n) v m =
-      record {
-        head = refl;
-        tail = refl;
-        owns = λ x. refl;
-        next =
-            λ x h. put-other (S .mem .next) (n .0) v x
-            (λ e. ne (own-one (s .queues) (S .mem .uses) q r (n .0) (rw e at h) m));
-        level = λ j. inl (refl, refl);
-      }
+      kept (upd (S .mem) (Next n) v) refl refl refl
+      (λ x h. put-other (S .mem .next) (n .0) v x (λ e. ne (own-one (s .queues) (S .mem .uses) q r (n .0) (rw e at h) m)))
+      (λ j. inl (refl, refl))
   kept-store (Use n) v m = absurd m
 
   -- a use word that named another queue or none, and does so again
