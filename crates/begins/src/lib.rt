@@ -20,19 +20,12 @@ use words::Word;
 fn begin_frame(op: u16, point: u16, q: Queue, n: Node) -> Frame
     ensures { λ r. ⌜ r ≡ begunAt op point q n ⌝ }
 {
-    Frame {
-        op,
-        point,
-        queue: q,
-        node: n,
-        k: Level(0),
-        p: Node(0),
-        c: Node(0),
-        a: Node(0),
-        r: Node(0),
-        m: Level(0),
-        steps: 0,
-    }
+    let mut f = words::no_frame();
+    f.op = op;
+    f.point = point;
+    f.queue = q;
+    f.node = n;
+    f
 }
 
 // The number of the first refusal of an enqueue, or 0.

@@ -68,7 +68,7 @@ abbrev pub runEnd : Said Run → List ℕ → List ℕ
 runEnd (refused r) w = w
 runEnd (says (after n why)) w = whyEnd why w
 
--- ---- what a call gives: its answer, the table, and the end's words
+-- ---- what a call gives: its answer, what it was lent, and the end's words
 
 abbrev pub doneOut : Said Unit × List ℕ → ℕ × List ℕ
 doneOut x = (doneReply (x .0), x .1)
@@ -78,3 +78,6 @@ stepOut x w = (stepReply (x .0), (x .1, stepEnd (x .0) w))
 
 abbrev pub runOut : Said Run × List ℕ → List ℕ → ℕ × (List ℕ × List ℕ)
 runOut x w = (runReply (x .0), (x .1, runEnd (x .0) w))
+
+abbrev pub countOut : Said ℕ × List ℕ → ℕ × List ℕ
+countOut x = (countReply (x .0), x .1)

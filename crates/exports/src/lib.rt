@@ -1,25 +1,33 @@
 // The calls for a caller in C.
 ghost use mathlib.Core.Path.{_≡_};
 ghost use Rattle.words.specs.Layout.{level, queue, node};
-ghost use Rattle.answers.specs.Said.{doneSays, stepSays, runSays};
+ghost use Rattle.answers.specs.Said.{doneSays, stepSays, runSays, quietSays, countSays};
 ghost use Rattle.fresh.specs.Fresh.{freshOf};
 ghost use Rattle.begins.specs.Begin.{enqueueOf, dequeueOf};
 ghost use Rattle.steps.specs.Step.{stepOf};
 ghost use Rattle.steps.specs.Run.{runOf};
+ghost use Rattle.asks.specs.Quiet.{quietOf};
+ghost use Rattle.asks.specs.Waiting.{waitingOf};
+ghost use Rattle.asks.specs.Listing.{listingOf};
 ghost use Rattle.exports.specs.Reply.{
   packed,
   doneReply,
   stepReply,
   runReply,
+  quietReply,
+  countReply,
   endWords,
   stepEnd,
   runEnd,
   doneOut,
   stepOut,
   runOut,
+  countOut,
 };
+use answers::Counted;
 use answers::Done;
 use answers::End;
+use answers::Quiet;
 use answers::Ran;
 use answers::Stepped;
 use words::Level;
@@ -61,6 +69,25 @@ fn pack_run(a: Ran) -> u32
         Ran::Idle(n) => pack(n, 9),
         Ran::Damaged(n) => pack(n, 10),
         Ran::Refused(r) => pack(0, r),
+    }
+}
+
+fn pack_quiet(a: Quiet) -> u32
+    ensures { λ r. ⌜ r ≡ quietReply (quietSays a) ⌝ }
+{
+    match a {
+        Quiet::Yes => pack(1, 0),
+        Quiet::No => pack(0, 0),
+        Quiet::Refused(r) => pack(0, r),
+    }
+}
+
+fn pack_count(a: Counted) -> u32
+    ensures { λ r. ⌜ r ≡ countReply (countSays a) ⌝ }
+{
+    match a {
+        Counted::Are(n) => pack(n, 0),
+        Counted::Refused(r) => pack(0, r),
     }
 }
 
@@ -129,4 +156,25 @@ pub extern "C" fn exports_run(t: &mut [u16], budget: u16, end: &mut [u16; 5]) ->
     let a = steps::run(t, budget);
     put_run_end(end, a);
     pack_run(a)
+}
+
+#[no_mangle]
+pub extern "C" fn exports_quiet(t: &[u16], q: u16) -> u32
+    ensures { λ r. ⌜ quietReply (quietOf (now (t .entry)) (queue q)) ≡ r ⌝ }
+{
+    pack_quiet(asks::quiet(t, Queue(q)))
+}
+
+#[no_mangle]
+pub extern "C" fn exports_waiting(t: &[u16], q: u16) -> u32
+    ensures { λ r. ⌜ countReply (waitingOf (now (t .entry)) (queue q)) ≡ r ⌝ }
+{
+    pack_count(asks::waiting(t, Queue(q)))
+}
+
+#[no_mangle]
+pub extern "C" fn exports_listing(t: &[u16], q: u16, room: &mut [u16]) -> u32
+    ensures { λ r. ⌜ countOut (listingOf (now (t .entry)) (queue q) (now (room .entry))) ≡ (r, now (room .exit)) ⌝ }
+{
+    pack_count(asks::listing(t, Queue(q), room))
 }

@@ -10,7 +10,6 @@ use native.Mathlib.Numerals.{add-one}
 use lib.ListN.{length, replicate, drop, getD, length-append, length-replicate, length-drop, getD-replicate, List·getD-append}
 use lib.Seq.{getD-append-add, getD-drop}
 use Rattle.words.specs.declared.Level.{Level}
-use Rattle.words.specs.declared.Queue.{Queue}
 use Rattle.words.specs.declared.Sizes.{Sizes}
 use Rattle.words.specs.declared.Word.{Word}
 use Rattle.words.specs.declared.Word.the-variants.{LevelNode, LevelQueue, Head, Tail, Next, Use}
@@ -19,7 +18,7 @@ use Rattle.words.specs.Layout.{queue, limits, words, measured, has, rd, wr, fra
 use Rattle.words.specs.Laws.{
   Bound,
   bound,
-  within-is,
+  has-is,
   rd-same,
   rd-other,
   frame-wr,
@@ -34,11 +33,6 @@ use Rattle.words.specs.Laws.{
   measured-counts,
 }
 use Rattle.fresh.specs.Fresh.{cleared, ended, freshTable}
-
--- a queue 1..Q has its head and its tail
-pub has-ends : (s : Sizes) (q : Queue) → 1 ≤ q .0 → q .0 ≤ s .queues → (has s (Head q) ≡ true) × (has s (Tail q) ≡ true)
-unfolding has
-has-ends s q a b = (within-is 1 (s .queues) (q .0) a b, within-is 1 (s .queues) (q .0) a b)
 
 -- one queue more has its ends written
 pub ended-more : (s : Sizes) (t₀ t u v : List ℕ) (i : ℕ) → t ≡ ended s i t₀ → u ≡ wr s t (Head (queue (i + 1))) (i + 1)
@@ -79,7 +73,8 @@ module _ (s : Sizes) (t : List ℕ) (n : ℕ) (more : suc n ≤ s .queues) where
   tail = Tail (queue (suc n))
 
   ends : (has s head ≡ true) × (has s tail ≡ true)
-  ends = has-ends s (queue (suc n)) (omega arith) more
+  unfolding Bound
+  ends = (has-is s head (omega arith), has-is s tail (omega arith))
 
   last-past : (i : ℕ) → words s ≤ i → getD (ended s (suc n) t) i 0 ≡ getD (ended s n t) i 0
   unfolding ended

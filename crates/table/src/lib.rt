@@ -157,7 +157,19 @@ pub enum After {
 }
 
 // The frame of these words. Frames are made word by word: a compiler then keeps the words apart.
-fn frame(op: u16, point: u16, queue: Queue, node: Node, k: Level, p: Node, c: Node, a: Node, r: Node, m: Level, steps: u16) -> Frame
+fn frame(
+    op: u16,
+    point: u16,
+    queue: Queue,
+    node: Node,
+    k: Level,
+    p: Node,
+    c: Node,
+    a: Node,
+    r: Node,
+    m: Level,
+    steps: u16,
+) -> Frame
     ensures { λ f. ⌜ f ≡ frame op point queue node k p c a r m steps ⌝ }
 {
     Frame {
@@ -178,43 +190,127 @@ fn frame(op: u16, point: u16, queue: Queue, node: Node, k: Level, p: Node, c: No
 fn with_n(f: Frame, v: u16) -> Frame
     ensures { λ r. ⌜ r ≡ setN v f ⌝ }
 {
-    frame(f.op, f.point, f.queue, Node(v), f.k, f.p, f.c, f.a, f.r, f.m, f.steps)
+    frame(
+        f.op,
+        f.point,
+        f.queue,
+        Node(v),
+        f.k,
+        f.p,
+        f.c,
+        f.a,
+        f.r,
+        f.m,
+        f.steps,
+    )
 }
 
 fn with_k(f: Frame, v: Level) -> Frame
     ensures { λ r. ⌜ r ≡ setK v f ⌝ }
 {
-    frame(f.op, f.point, f.queue, f.node, v, f.p, f.c, f.a, f.r, f.m, f.steps)
+    frame(
+        f.op,
+        f.point,
+        f.queue,
+        f.node,
+        v,
+        f.p,
+        f.c,
+        f.a,
+        f.r,
+        f.m,
+        f.steps,
+    )
 }
 
 fn with_p(f: Frame, v: u16) -> Frame
     ensures { λ r. ⌜ r ≡ setP v f ⌝ }
 {
-    frame(f.op, f.point, f.queue, f.node, f.k, Node(v), f.c, f.a, f.r, f.m, f.steps)
+    frame(
+        f.op,
+        f.point,
+        f.queue,
+        f.node,
+        f.k,
+        Node(v),
+        f.c,
+        f.a,
+        f.r,
+        f.m,
+        f.steps,
+    )
 }
 
 fn with_c(f: Frame, v: u16) -> Frame
     ensures { λ r. ⌜ r ≡ setC v f ⌝ }
 {
-    frame(f.op, f.point, f.queue, f.node, f.k, f.p, Node(v), f.a, f.r, f.m, f.steps)
+    frame(
+        f.op,
+        f.point,
+        f.queue,
+        f.node,
+        f.k,
+        f.p,
+        Node(v),
+        f.a,
+        f.r,
+        f.m,
+        f.steps,
+    )
 }
 
 fn with_a(f: Frame, v: u16) -> Frame
     ensures { λ r. ⌜ r ≡ setA v f ⌝ }
 {
-    frame(f.op, f.point, f.queue, f.node, f.k, f.p, f.c, Node(v), f.r, f.m, f.steps)
+    frame(
+        f.op,
+        f.point,
+        f.queue,
+        f.node,
+        f.k,
+        f.p,
+        f.c,
+        Node(v),
+        f.r,
+        f.m,
+        f.steps,
+    )
 }
 
 fn with_r(f: Frame, v: u16) -> Frame
     ensures { λ r. ⌜ r ≡ setR v f ⌝ }
 {
-    frame(f.op, f.point, f.queue, f.node, f.k, f.p, f.c, f.a, Node(v), f.m, f.steps)
+    frame(
+        f.op,
+        f.point,
+        f.queue,
+        f.node,
+        f.k,
+        f.p,
+        f.c,
+        f.a,
+        Node(v),
+        f.m,
+        f.steps,
+    )
 }
 
 fn with_m(f: Frame, v: Level) -> Frame
     ensures { λ r. ⌜ r ≡ setM v f ⌝ }
 {
-    frame(f.op, f.point, f.queue, f.node, f.k, f.p, f.c, f.a, f.r, v, f.steps)
+    frame(
+        f.op,
+        f.point,
+        f.queue,
+        f.node,
+        f.k,
+        f.p,
+        f.c,
+        f.a,
+        f.r,
+        v,
+        f.steps,
+    )
 }
 
 // One step more; 65,535 stays.
@@ -223,16 +319,52 @@ pub fn count_step(f: Frame) -> Frame
 {
     let n = f.steps;
     if n < 65535 {
-        frame(f.op, f.point, f.queue, f.node, f.k, f.p, f.c, f.a, f.r, f.m, n + 1)
+        frame(
+            f.op,
+            f.point,
+            f.queue,
+            f.node,
+            f.k,
+            f.p,
+            f.c,
+            f.a,
+            f.r,
+            f.m,
+            n + 1,
+        )
     } else {
-        frame(f.op, f.point, f.queue, f.node, f.k, f.p, f.c, f.a, f.r, f.m, n)
+        frame(
+            f.op,
+            f.point,
+            f.queue,
+            f.node,
+            f.k,
+            f.p,
+            f.c,
+            f.a,
+            f.r,
+            f.m,
+            n,
+        )
     }
 }
 
 fn go(f: Frame, x: u16) -> After
     ensures { λ r. ⌜ r ≡ goTo x f ⌝ }
 {
-    After::Go(frame(f.op, x, f.queue, f.node, f.k, f.p, f.c, f.a, f.r, f.m, f.steps))
+    After::Go(frame(
+        f.op,
+        x,
+        f.queue,
+        f.node,
+        f.k,
+        f.p,
+        f.c,
+        f.a,
+        f.r,
+        f.m,
+        f.steps,
+    ))
 }
 
 // To x if a is b, else to y.
@@ -247,11 +379,7 @@ fn end_or_go(f: Frame, x: u16) -> After
     ensures { λ r. ⌜ r ≡ ifEq (f .op) 1 (ends (f .node .0)) (goTo x f) ⌝ }
 {
     let n = f.node;
-    if f.op == 1 {
-        After::Done(n)
-    } else {
-        go(f, x)
-    }
+    if f.op == 1 { After::Done(n) } else { go(f, x) }
 }
 
 // Below k: to x if k is 0, else take 1 from k and go to y.
@@ -353,7 +481,13 @@ pub fn turn(t: &mut [u16], s: Sizes, l: Level, top: Level, f: Frame) -> Turned
     let m = f.m;
     match point {
         Point::E1 => store(t, s, Word::LevelNode(l), n.0, go(f, Point::E2)),
-        Point::E2 => store(t, s, Word::LevelQueue(l), q.0, below_k(with_k(f, l), Point::E7, Point::E3)),
+        Point::E2 => store(
+            t,
+            s,
+            Word::LevelQueue(l),
+            q.0,
+            below_k(with_k(f, l), Point::E7, Point::E3),
+        ),
         Point::E3 => match load(t, s, Word::LevelQueue(k)) {
             Loaded::Value(x) => {
                 if x == q.0 {
@@ -378,7 +512,13 @@ pub fn turn(t: &mut [u16], s: Sizes, l: Level, top: Level, f: Frame) -> Turned
             }
             Loaded::Stray => Turned::Stray,
         },
-        Point::E6 => store(t, s, Word::LevelQueue(k), 0, below_k(f, Point::E7, Point::E3)),
+        Point::E6 => store(
+            t,
+            s,
+            Word::LevelQueue(k),
+            0,
+            below_k(f, Point::E7, Point::E3),
+        ),
         Point::E7 => match load(t, s, Word::Tail(q)) {
             Loaded::Value(x) => Turned::Next(go(with_c(f, x), Point::E8)),
             Loaded::Stray => Turned::Stray,
@@ -488,7 +628,13 @@ pub fn turn(t: &mut [u16], s: Sizes, l: Level, top: Level, f: Frame) -> Turned
             Loaded::Value(x) => Turned::Next(go(with_r(f, x), Point::D5)),
             Loaded::Stray => Turned::Stray,
         },
-        Point::D5 => store(t, s, Word::Head(q), r.0, go_if_same(f, c.0, q.0, Point::D6, Point::D7)),
+        Point::D5 => store(
+            t,
+            s,
+            Word::Head(q),
+            r.0,
+            go_if_same(f, c.0, q.0, Point::D6, Point::D7),
+        ),
         Point::D6 => store(t, s, Word::Next(c), 0, go(with_n(f, q.0), Point::E1)),
         Point::D7 => free(t, s, c, After::Done(c)),
         _ => Turned::Stray,

@@ -18,10 +18,10 @@ loop-holds : tie.Need-loop-holds Inv-loop μ-loop
 loop-holds c = (search needs, search needs, refl)
 
 loop-again : tie.Need-loop-again Inv-loop μ-loop
-loop-again c = (search needs, simp length-set ((c .before .loop .inv) .1), ap (λ (u : List ℕ). set u (c .before .loop .i) 0) ((c .before .loop .inv) .2) ∙ fill-more (c .before .loop .i) 0 ((c .before .before .args .t) .now) (search needs))
+loop-again c = (search needs, simp length-set (c .before .loop .inv .1), ap (λ (u : List ℕ). set u (c .before .loop .i) 0) (c .before .loop .inv .2) ∙ fill-more (c .before .loop .i) 0 (c .before .before .args .t .now) (search needs))
 
 returns : tie.Need-returns Inv-loop μ-loop
-returns c = let z : (c .before .loop .i) ≡ (c .before .before .args .n) = omega arith in (c .before .loop .inv) .2 ∙ ap (λ (i : ℕ). replicate i 0 ++ drop i ((c .before .before .args .t) .now)) z
+returns c = let z : (c .before .loop .i) ≡ (c .before .before .args .n) = omega arith in (c .before .loop .inv) .2 ∙ ap (λ (i : ℕ). replicate i 0 ++ drop i (c .before .before .args .t .now)) z
 
 pub clear-spec : {M : Type 1} → statement M
 clear-spec =

@@ -1,10 +1,10 @@
-use Prim.Native.Nat.{ℕ, _≤_, _-_, _+_}
+use Prim.Native.Nat.{ℕ, _≤_, _-_}
 use mathlib.Core.Path.{_≡_, refl, ap, _∙_}
 use lib.ListN.{length}
 use native.Mathlib.Omega.{arith}
-use Rattle.words.specs.Layout.{queue}
+use Rattle.words.specs.Laws.{Bound, has-is}
 use Rattle.fresh.specs.Fresh.{ended}
-use Rattle.fresh.specs.Laws.{has-ends, ended-more}
+use Rattle.fresh.specs.Laws.{ended-more}
 use borrow.Author.Needs.{needs}
 use Rattle.fresh.proofs.put_ends.Statement.{statement}
 use Rattle.fresh.proofs.put_ends.Tie as tie
@@ -20,16 +20,18 @@ unfolding ended
 loop-holds c = (search needs, search needs, refl)
 
 store-requires : tie.Need-store-requires Inv-loop μ-loop
-store-requires c κs = (search needs, has-ends (c .before .before .before .before .before .args .s) (queue ((c .before .before .before .loop .i) + 1)) (search needs) (search needs) .0)
+unfolding Bound
+store-requires c κs = (search needs, has-is _ _ (search needs))
 
 store-requires-2 : tie.Need-store-requires-2 Inv-loop μ-loop
-store-requires-2 c κs = (search needs, has-ends (c .before .before .before .before .before .before .before .before .before .args .s) (queue ((c .before .before .before .before .before .before .before .loop .i) + 1)) (search needs) (search needs) .1)
+unfolding Bound
+store-requires-2 c κs = (search needs, has-is _ _ (search needs))
 
 loop-again : tie.Need-loop-again Inv-loop μ-loop
-loop-again c = (search needs, search needs, ended-more (c .before .before .before .before .before .before .before .before .before .before .before .before .args .s) ((c .before .before .before .before .before .before .before .before .before .before .before .before .args .t) .now) (c .before .before .before .before .before .before .before .before .before .before .loop .t) ((c .before .before .before .before .before .before .store .last) .0) ((c .before .before .store2 .last) .0) (c .before .before .before .before .before .before .before .before .before .before .loop .i) ((c .before .before .before .before .before .before .before .before .before .before .loop .inv) .2) (c .before .before .before .before .before .before .store .ensures) (c .before .before .store2 .ensures))
+loop-again c = (search needs, search needs, ended-more _ _ _ _ _ _ (c .before .before .before .before .before .before .before .before .before .before .loop .inv .2) (c .before .before .before .before .before .before .store .ensures) (c .before .before .store2 .ensures))
 
 returns : tie.Need-returns Inv-loop μ-loop
-returns c = let z : (c .before .before .loop .i) ≡ (c .before .before .before .before .args .s) .queues = omega arith in (c .before .before .loop .inv) .2 ∙ ap (λ (i : ℕ). ended (c .before .before .before .before .args .s) i ((c .before .before .before .before .args .t) .now)) z
+returns c = let z : (c .before .before .loop .i) ≡ (c .before .before .before .before .args .s) .queues = omega arith in (c .before .before .loop .inv) .2 ∙ ap (λ (i : ℕ). ended (c .before .before .before .before .args .s) i (c .before .before .before .before .args .t .now)) z
 
 pub put-ends-spec : {M : Type 1} → statement M
 put-ends-spec =

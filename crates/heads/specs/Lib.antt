@@ -1,0 +1,3 @@
+pub mod Heads
+pub mod Put
+pub mod Laws

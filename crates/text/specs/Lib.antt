@@ -1,0 +1,5 @@
+pub mod Text
+pub mod Answer
+pub mod Reading
+pub mod Laws
+pub mod Unique
