@@ -4,7 +4,6 @@ ghost use mathlib.Core.List.{map};
 ghost use Rattle.table.specs.Points.{pointOf, numberOf, points};
 ghost use Rattle.words.specs.Inner.{Fits};
 ghost use Rattle.table.specs.Frames.{
-  frame,
   setN,
   setK,
   setP,
@@ -25,7 +24,6 @@ ghost use Rattle.table.specs.Turn.{loaded, turned};
 use words::Frame;
 use words::Level;
 use words::Node;
-use words::Queue;
 use words::Sizes;
 use words::Word;
 
@@ -156,25 +154,21 @@ pub enum After {
     Done(Node),
 }
 
-// The frame of these words. Frames are made word by word: a compiler then keeps the words apart.
-fn frame(
-    op: u16,
-    point: u16,
-    queue: Queue,
-    node: Node,
-    k: Level,
-    p: Node,
-    c: Node,
-    a: Node,
-    r: Node,
-    m: Level,
-    steps: u16,
-) -> Frame
-    ensures { λ f. ⌜ f ≡ frame op point queue node k p c a r m steps ⌝ }
+// The same frame, made again word by word: a compiler then keeps its words apart, where it would copy them together.
+fn apart(f: Frame) -> Frame
+    ensures { λ r. ⌜ r ≡ f ⌝ }
 {
+    let queue = f.queue;
+    let node = f.node;
+    let k = f.k;
+    let p = f.p;
+    let c = f.c;
+    let a = f.a;
+    let r = f.r;
+    let m = f.m;
     Frame {
-        op,
-        point,
+        op: f.op,
+        point: f.point,
         queue,
         node,
         k,
@@ -183,188 +177,82 @@ fn frame(
         a,
         r,
         m,
-        steps,
+        steps: f.steps,
     }
 }
 
-fn with_n(f: Frame, v: u16) -> Frame
+fn with_n(mut f: Frame, v: u16) -> Frame
     ensures { λ r. ⌜ r ≡ setN v f ⌝ }
 {
-    frame(
-        f.op,
-        f.point,
-        f.queue,
-        Node(v),
-        f.k,
-        f.p,
-        f.c,
-        f.a,
-        f.r,
-        f.m,
-        f.steps,
-    )
+    let w = Node(v);
+    f.node = w;
+    apart(f)
 }
 
-fn with_k(f: Frame, v: Level) -> Frame
+fn with_k(mut f: Frame, v: Level) -> Frame
     ensures { λ r. ⌜ r ≡ setK v f ⌝ }
 {
-    frame(
-        f.op,
-        f.point,
-        f.queue,
-        f.node,
-        v,
-        f.p,
-        f.c,
-        f.a,
-        f.r,
-        f.m,
-        f.steps,
-    )
+    f.k = v;
+    apart(f)
 }
 
-fn with_p(f: Frame, v: u16) -> Frame
+fn with_p(mut f: Frame, v: u16) -> Frame
     ensures { λ r. ⌜ r ≡ setP v f ⌝ }
 {
-    frame(
-        f.op,
-        f.point,
-        f.queue,
-        f.node,
-        f.k,
-        Node(v),
-        f.c,
-        f.a,
-        f.r,
-        f.m,
-        f.steps,
-    )
+    let w = Node(v);
+    f.p = w;
+    apart(f)
 }
 
-fn with_c(f: Frame, v: u16) -> Frame
+fn with_c(mut f: Frame, v: u16) -> Frame
     ensures { λ r. ⌜ r ≡ setC v f ⌝ }
 {
-    frame(
-        f.op,
-        f.point,
-        f.queue,
-        f.node,
-        f.k,
-        f.p,
-        Node(v),
-        f.a,
-        f.r,
-        f.m,
-        f.steps,
-    )
+    let w = Node(v);
+    f.c = w;
+    apart(f)
 }
 
-fn with_a(f: Frame, v: u16) -> Frame
+fn with_a(mut f: Frame, v: u16) -> Frame
     ensures { λ r. ⌜ r ≡ setA v f ⌝ }
 {
-    frame(
-        f.op,
-        f.point,
-        f.queue,
-        f.node,
-        f.k,
-        f.p,
-        f.c,
-        Node(v),
-        f.r,
-        f.m,
-        f.steps,
-    )
+    let w = Node(v);
+    f.a = w;
+    apart(f)
 }
 
-fn with_r(f: Frame, v: u16) -> Frame
+fn with_r(mut f: Frame, v: u16) -> Frame
     ensures { λ r. ⌜ r ≡ setR v f ⌝ }
 {
-    frame(
-        f.op,
-        f.point,
-        f.queue,
-        f.node,
-        f.k,
-        f.p,
-        f.c,
-        f.a,
-        Node(v),
-        f.m,
-        f.steps,
-    )
+    let w = Node(v);
+    f.r = w;
+    apart(f)
 }
 
-fn with_m(f: Frame, v: Level) -> Frame
+fn with_m(mut f: Frame, v: Level) -> Frame
     ensures { λ r. ⌜ r ≡ setM v f ⌝ }
 {
-    frame(
-        f.op,
-        f.point,
-        f.queue,
-        f.node,
-        f.k,
-        f.p,
-        f.c,
-        f.a,
-        f.r,
-        v,
-        f.steps,
-    )
+    f.m = v;
+    apart(f)
 }
 
 // One step more; 65,535 stays.
-pub fn count_step(f: Frame) -> Frame
+pub fn count_step(mut f: Frame) -> Frame
     ensures { λ r. ⌜ r ≡ counted f ⌝ }
 {
     let n = f.steps;
     if n < 65535 {
-        frame(
-            f.op,
-            f.point,
-            f.queue,
-            f.node,
-            f.k,
-            f.p,
-            f.c,
-            f.a,
-            f.r,
-            f.m,
-            n + 1,
-        )
+        f.steps = n + 1;
+        apart(f)
     } else {
-        frame(
-            f.op,
-            f.point,
-            f.queue,
-            f.node,
-            f.k,
-            f.p,
-            f.c,
-            f.a,
-            f.r,
-            f.m,
-            n,
-        )
+        apart(f)
     }
 }
 
-fn go(f: Frame, x: u16) -> After
+fn go(mut f: Frame, x: u16) -> After
     ensures { λ r. ⌜ r ≡ goTo x f ⌝ }
 {
-    After::Go(frame(
-        f.op,
-        x,
-        f.queue,
-        f.node,
-        f.k,
-        f.p,
-        f.c,
-        f.a,
-        f.r,
-        f.m,
-        f.steps,
-    ))
+    f.point = x;
+    After::Go(apart(f))
 }
 
 // To x if a is b, else to y.
