@@ -1,12 +1,12 @@
 -- Where a number stands in a list: in it at all, at its end, in one of two lists joined.
-use Prim.Native.Nat.{ℕ, zero, suc, _+_, _≤_, _<_}
-use mathlib.Core.Path.{_≡_, refl, sym, ap, _∙_}
+use Prim.Native.Nat.{ℕ, zero, suc, _+_, _<_}
+use mathlib.Core.Path.{_≡_, refl, ap}
 use mathlib.Core.Logic.{_≢_, _⊎_, inl, inr}
 use mathlib.Core.Bool.{Bool, true, false}
-use mathlib.Core.List.{List, [], _∷_, _++_, append-assoc}
+use mathlib.Core.List.{List, [], _∷_, _++_}
 use native.Mathlib.Omega.{arith}
 use lib.Dec.{eqb}
-use Rattle.lists.specs.Count.{Same, same, apart, same?, hit, cnt, cnt-append, cnt-cons, cnt-nil, cnt-self, counts}
+use Rattle.lists.specs.Count.{Same, same, apart, same?, hit, cnt, cnt-append, cnt-cons, cnt-nil, counts}
 
 -- c is the last of xs
 abbrev pub Last : ℕ → List ℕ → Type 0

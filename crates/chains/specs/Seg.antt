@@ -1,14 +1,13 @@
 -- A stretch of a chain: from a pointer the next words lead through a list of nodes to another pointer. How it is walked, cut, turned and closed.
-use Prim.Native.Nat.{ℕ, zero, suc, _+_, _≤_, _<_}
+use Prim.Native.Nat.{ℕ, _+_, _≤_, _<_}
 use mathlib.Core.Path.{_≡_, refl, sym, ap, _∙_}
-use mathlib.Core.Logic.{_≢_, _⊎_, inl, inr}
-use mathlib.Core.List.{List, [], _∷_, _++_, append-assoc, append-nil}
+use mathlib.Core.List.{List, [], _∷_, _++_}
 use native.Mathlib.Omega.{arith}
 use mathlib.Core.Bool.{Bool, true, false}
 use lib.Dec.{eqb}
-use Rattle.lists.specs.Count.{Same, same, apart, same?, hit, cnt, cnt-append, cnt-cons, cnt-nil, eqb-self, cnt-self, counts}
+use Rattle.lists.specs.Count.{Same, same, apart, same?, hit, cnt, cnt-cons, cnt-nil, cnt-self, counts}
 use Rattle.state.specs.Mem.{put, put-same, put-other}
-use Rattle.chains.specs.Member.{Last, Place, place}
+use Rattle.chains.specs.Member.{Last}
 
 -- from pointer s the links of f visit xs, and the last points to t
 pub data Seg (f : ℕ → ℕ) : ℕ → List ℕ → ℕ → Type 0 where

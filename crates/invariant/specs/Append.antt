@@ -1,25 +1,19 @@
 -- E7 to E12: nobody below is registered, and the operation's chain is hung on tail; then tail moves to its end.
-use Prim.Native.Nat.{ℕ, zero, suc, _+_, _-_, _≤_, _<_}
+use Prim.Native.Nat.{ℕ}
 use mathlib.Core.Path.{_≡_, refl, sym, ap, _∙_}
-use mathlib.Core.Logic.{_≢_, _⊎_, inl, inr}
-use mathlib.Core.Bool.{Bool, true, false}
-use mathlib.Core.List.{List, [], _∷_, _++_, append-nil, append-assoc}
+use mathlib.Core.List.{List, [], _∷_, _++_, append-nil}
 use native.Mathlib.Omega.{arith}
-use Rattle.words.specs.declared.Frame.{Frame}
-use Rattle.words.specs.Layout.{level}
-use Rattle.lists.specs.Count.{cnt, cnt-append, cnt-cons, cnt-nil, eqb-self, cnt-self, counts}
-use Rattle.state.specs.Mem.{Mem, put, put-same, put-other}
-use Rattle.state.specs.Step.{memAfter, then}
-use Rattle.table.specs.Points.{Point, E7, E8, E9, E10, E11, E12, E28}
+use Rattle.lists.specs.Count.{cnt-self, counts}
+use Rattle.state.specs.Mem.{put-same}
+use Rattle.table.specs.Points.{E7, E8, E9, E10, E11, E12, E28}
 use Rattle.table.specs.Laws.{point-is}
 use Rattle.table.specs.Frames.{walkTo}
 use Rattle.table.specs.Table.{row}
-use Rattle.chains.specs.Member.{Last, differ}
-use Rattle.chains.specs.Seg.{Seg, stop, link, seg-put, seg-head, seg-rest, seg-nil, seg-turn-last}
-use Rattle.invariant.specs.Ghost.{Item, loose, owner, mark, Stack, push, lists, flight, follow, origin, start}
-use Rattle.invariant.specs.Facts.{Regs, regs, View, Hot, Unlinked, e7, e8, e9, Linked, e10, e11, e12, Here, is-owner, is-mark, is-done, Works, Pile}
-use Rattle.invariant.specs.Below.{hot-start, Nobody, nobody}
-use Rattle.invariant.specs.Turn.{view, Stand, frontOf, Turn, Ok, goes-on, by-eq, Case, stay, to, below-ln}
+use Rattle.chains.specs.Seg.{seg-rest, seg-nil}
+use Rattle.invariant.specs.Ghost.{owner, mark}
+use Rattle.invariant.specs.Facts.{Hot, e7, e8, e9, e10, e11, e12, is-owner, is-mark, is-done}
+use Rattle.invariant.specs.Below.{nobody}
+use Rattle.invariant.specs.Turn.{Turn, goes-on, by-eq, Case, stay, to, below-ln}
 use Rattle.invariant.specs.Rules.{along, hang, move-on, settle}
 
 -- the queue's own chain with no mark in it: tail alone, and its link ends

@@ -1,9 +1,9 @@
 -- A begin on the queue keeps the invariant, and nothing in front moves.
-use Prim.Native.Nat.{ℕ, zero, suc, _+_, _≤_, _<_}
-use mathlib.Core.Path.{_≡_, refl, sym, ap, _∙_}
-use mathlib.Core.Logic.{_≢_, _⊎_, inl, inr}
+use Prim.Native.Nat.{ℕ, _+_, _≤_, _<_}
+use mathlib.Core.Path.{_≡_, refl}
+use mathlib.Core.Logic.{_≢_, inl, inr}
 use mathlib.Core.Bool.{Bool, true, false}
-use mathlib.Core.List.{List, [], _∷_, _++_}
+use mathlib.Core.List.{List, [], _∷_}
 use native.Mathlib.Omega.{arith}
 use lib.Dec.{eqb}
 use borrow.Author.Tests.{ne-eqb}
@@ -11,18 +11,18 @@ use Rattle.words.specs.declared.Sizes.{Sizes}
 use Rattle.words.specs.declared.Frame.{Frame}
 use Rattle.words.specs.declared.Word.the-variants.{Use}
 use Rattle.words.specs.Layout.{level, queue, node}
-use Rattle.lists.specs.Count.{Same, same, apart, same?, hit, cnt, cnt-append, cnt-cons, cnt-nil, eqb-self, counts}
-use Rattle.state.specs.Mem.{Mem, mem, put, put-same, put-other, upd}
+use Rattle.lists.specs.Count.{Same, same, apart, same?, cnt, cnt-cons, cnt-nil, counts}
+use Rattle.state.specs.Mem.{mem, put, put-same, upd}
 use Rattle.state.specs.Step.{State}
 use Rattle.state.specs.Queues.{On, own}
-use Rattle.table.specs.Points.{Point, pointOf, E1, D1}
+use Rattle.table.specs.Points.{pointOf, E1, D1}
 use Rattle.table.specs.Laws.{point-is}
 use Rattle.table.specs.Frames.{frame}
-use Rattle.invariant.specs.Ghost.{Item, loose, Stack, push, Listed}
-use Rattle.invariant.specs.Facts.{regs, Here, is-loose, e1, d1, Works, Pile}
+use Rattle.invariant.specs.Ghost.{loose, push, Listed}
+use Rattle.invariant.specs.Facts.{regs, Here, is-loose, e1, d1, Works}
 use Rattle.invariant.specs.Keep.{upon′}
 use Rattle.invariant.specs.Own.{own-begun}
-use Rattle.invariant.specs.Turn.{view, Stand, StandIn, frontOf}
+use Rattle.invariant.specs.Turn.{view}
 use Rattle.invariant.specs.Levels.{each, same-frames, sink}
 use Rattle.invariant.specs.Sound.{Sound}
 

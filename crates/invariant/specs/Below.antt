@@ -1,62 +1,20 @@
 -- What a pile tells of the levels and nodes in it: which level shows itself, where tail is, and where each node's link leads.
-use Prim.Native.Nat.{ℕ, zero, suc, _+_, _≤_, _<_}
-use mathlib.Core.Path.{_≡_, refl, sym, ap, _∙_}
+use Prim.Native.Nat.{ℕ, _+_, _≤_, _<_}
+use mathlib.Core.Path.{_≡_, refl, sym, _∙_}
 use mathlib.Core.Logic.{_≢_, _⊎_, inl, inr}
 use mathlib.Core.Bool.{Bool, true, false}
 use mathlib.Core.List.{List, [], _∷_, _++_, append-nil}
 use native.Mathlib.Omega.{arith}
 use Rattle.words.specs.declared.Frame.{Frame}
 use lib.Dec.{eqb}
-use Rattle.lists.specs.Count.{Same, same, apart, same?, cnt, cnt-append, cnt-cons, cnt-nil, eqb-self, cnt-self, counts}
+use Rattle.lists.specs.Count.{Same, same, apart, same?, cnt, cnt-nil, cnt-self, counts}
 use Rattle.state.specs.Mem.{put, put-same, put-other}
-use Rattle.table.specs.Points.{Point, pointOf}
+use Rattle.table.specs.Points.{Point}
 use Rattle.chains.specs.Member.{either, differ}
-use Rattle.chains.specs.Seg.{Seg, seg-head, Walk, on, out, walk, stop, link}
-use Rattle.invariant.specs.Ghost.{Item, loose, owner, mark, Stack, floor, push, lists, flight, leaving, follow, origin, start, Listed}
-use Rattle.invariant.specs.Facts.{
-  Regs,
-  regs,
-  View,
-  Hot,
-  Loose,
-  d7,
-  e1,
-  e2,
-  e28-off,
-  e29,
-  d1,
-  d2,
-  d3,
-  d4,
-  d5,
-  d6,
-  Free,
-  Highest,
-  Unlinked,
-  Cut,
-  Linked,
-  e10,
-  e11,
-  e12,
-  e19,
-  e20,
-  e23,
-  e24,
-  e25,
-  e26,
-  e27,
-  e28,
-  Here,
-  is-loose,
-  is-done,
-  is-owner,
-  is-mark,
-  Works,
-  Pile,
-  bottom,
-  upon,
-}
-use Rattle.invariant.specs.Keep.{upon′, keep-all, Fetches, the-same}
+use Rattle.chains.specs.Seg.{Seg, Walk, on, out, walk}
+use Rattle.invariant.specs.Ghost.{loose, owner, mark, Stack, floor, push, lists, flight, leaving, follow, origin, start, Listed}
+use Rattle.invariant.specs.Facts.{Regs, View, Hot, Loose, d7, e1, e2, e28-off, e29, d1, d2, d3, d4, d5, d6, Highest, Cut, Linked, e10, e11, e12, e19, e20, e23, e24, e25, e26, e27, e28, is-loose, is-done, is-owner, is-mark, Works, Pile, bottom, upon}
+use Rattle.invariant.specs.Keep.{upon′, keep-all, the-same}
 
 -- ---- levels
 

@@ -1,20 +1,19 @@
 -- E1 to E6: an operation registers, and looks for the highest registered level below it; one whose work is done it takes off the queue.
-use Prim.Native.Nat.{ℕ, zero, suc, _+_, _-_, _≤_, _<_}
-use mathlib.Core.Path.{_≡_, refl, sym, ap, _∙_}
-use mathlib.Core.Logic.{_≢_, _⊎_, inl, inr}
+use Prim.Native.Nat.{ℕ, _-_, _≤_, _<_}
+use mathlib.Core.Path.{_≡_, refl, sym, _∙_}
+use mathlib.Core.Logic.{_≢_}
 use mathlib.Core.Bool.{Bool, true, false}
-use mathlib.Core.List.{List, [], _∷_, _++_, append-nil}
+use mathlib.Core.List.{[], _∷_}
 use native.Mathlib.Omega.{arith}
-use Rattle.words.specs.declared.Frame.{Frame}
 use lib.Dec.{eqb}
-use Rattle.lists.specs.Count.{Same, same, apart, same?, cnt, cnt-append, cnt-cons, cnt-nil, eqb-self, cnt-self, counts}
-use Rattle.state.specs.Mem.{Mem, put, put-same, put-other}
-use Rattle.table.specs.Points.{Point, E1, E2, E3, E4, E5, E6, E7, E13, E15}
+use Rattle.lists.specs.Count.{Same, same, apart, same?, counts}
+use Rattle.state.specs.Mem.{put, put-same, put-other}
+use Rattle.table.specs.Points.{E1, E2, E3, E4, E5, E6, E7, E13, E15}
 use Rattle.table.specs.Frames.{belowKTo, belowMTo}
 use Rattle.table.specs.Table.{row}
-use Rattle.chains.specs.Seg.{Seg, stop, link}
-use Rattle.invariant.specs.Ghost.{Item, loose, owner, mark, Stack, push, lists, flight, follow, origin, start, Listed}
-use Rattle.invariant.specs.Facts.{Regs, regs, View, Hot, e1, e2, Free, Highest, Aim, behind, before, NotPast, Unlinked, e3, e4, e5, e6, e7, e13, e15, Here, is-loose, is-owner, Works, Pile}
+use Rattle.chains.specs.Seg.{stop, link}
+use Rattle.invariant.specs.Ghost.{loose, owner, push, follow, origin, start}
+use Rattle.invariant.specs.Facts.{e1, e2, Free, Aim, behind, before, NotPast, e3, e4, e5, e6, e7, e13, e15, is-loose, is-owner, Pile}
 use Rattle.invariant.specs.Below.{hot-start, Shown, at-owner, at-mark, at-done, shown, taken-off}
 use Rattle.words.specs.Layout.{level}
 use Rattle.state.specs.Step.{memAfter, then}

@@ -1,5 +1,5 @@
 -- The invariant of one queue, point by point: what holds of a frame, of its item on the stack, and of the words that they speak of.
-use Prim.Native.Nat.{ℕ, zero, suc, _+_, _≤_, _<_}
+use Prim.Native.Nat.{ℕ, _≤_, _<_}
 use mathlib.Core.Path.{_≡_}
 use mathlib.Core.Logic.{_≢_}
 use mathlib.Core.Bool.{Bool, true, false}

@@ -1,26 +1,23 @@
 -- E17 to E27: the operation's chain is hung behind the first node of an unlinked one, or before a mark; the cut is closed; tail moves on if it stood there.
-use Prim.Native.Nat.{ℕ, zero, suc, _+_, _-_, _≤_, _<_}
+use Prim.Native.Nat.{ℕ}
 use mathlib.Core.Path.{_≡_, refl, sym, ap, _∙_}
-use mathlib.Core.Logic.{_≢_, _⊎_, inl, inr}
+use mathlib.Core.Logic.{_≢_}
 use mathlib.Core.Bool.{Bool, true, false}
-use mathlib.Core.List.{List, [], _∷_, _++_, append-nil, append-assoc}
+use mathlib.Core.List.{List, [], _∷_, _++_}
 use native.Mathlib.Omega.{arith}
 use lib.Dec.{eqb}
-use Rattle.words.specs.declared.Frame.{Frame}
-use Rattle.words.specs.Layout.{level}
-use Rattle.lists.specs.Count.{Same, same, apart, same?, cnt, cnt-append, cnt-cons, cnt-nil, eqb-self, cnt-self, counts}
-use Rattle.state.specs.Mem.{Mem, put, put-same, put-other}
-use Rattle.state.specs.Step.{memAfter, then}
-use Rattle.table.specs.Points.{Point, E17, E18, E19, E20, E21, E22, E23, E24, E25, E26, E27, E28}
+use Rattle.lists.specs.Count.{Same, same, apart, same?, cnt-self, counts}
+use Rattle.state.specs.Mem.{put-same}
+use Rattle.table.specs.Points.{E17, E18, E19, E20, E21, E22, E23, E24, E25, E26, E27, E28}
 use Rattle.table.specs.Laws.{point-is}
 use Rattle.table.specs.Table.{row}
-use Rattle.chains.specs.Member.{Last, last-in, differ, Place, place}
-use Rattle.chains.specs.Seg.{Seg, stop, link, seg-split, seg-nil, seg-rest}
-use Rattle.invariant.specs.Ghost.{Item, loose, owner, mark, Stack, push, lists, flight, follow, origin, start}
-use Rattle.invariant.specs.Facts.{Regs, regs, View, Hot, Aim, behind, before, Unlinked, e17, e18, e21, e22, Cut, Linked, e19, e20, e23, e24, e25, e26, e27, e28, Here, is-owner, is-mark, is-done, Works, Pile}
-use Rattle.invariant.specs.Below.{hot-start, tail-in}
-use Rattle.invariant.specs.Turn.{view, Stand, frontOf, Turn, Ok, goes-on, by-eq, Case, stay, to, below-ln}
-use Rattle.invariant.specs.Rules.{along, Hung, hang, close, move-on, settle}
+use Rattle.chains.specs.Member.{Last, last-in, differ, place}
+use Rattle.chains.specs.Seg.{Seg, stop, seg-split, seg-nil, seg-rest}
+use Rattle.invariant.specs.Ghost.{owner, mark, origin}
+use Rattle.invariant.specs.Facts.{behind, before, e17, e18, e21, e22, e19, e20, e23, e24, e25, e26, e27, e28, is-owner, is-mark, is-done}
+use Rattle.invariant.specs.Below.{tail-in}
+use Rattle.invariant.specs.Turn.{Turn, goes-on, by-eq, Case, stay, to, below-ln}
+use Rattle.invariant.specs.Rules.{along, hang, close, move-on, settle}
 
 -- the last of a stretch points to what follows it
 last-next : {f : ℕ → ℕ} {s t : ℕ} {xs : List ℕ} (c : ℕ) → Last c xs → Seg f s xs t → f c ≡ t

@@ -1,79 +1,17 @@
 -- What lies below a level stands still while that level works: a pile's facts outlive every change that leaves alone
 -- the words of its levels, the next words of its nodes, and tail where a level is not linked in or done.
-use Prim.Native.Nat.{ℕ, zero, suc, _+_, _≤_, _<_}
+use Prim.Native.Nat.{ℕ, _+_, _≤_, _<_}
 use mathlib.Core.Path.{_≡_, refl, sym, ap, _∙_}
 use mathlib.Core.Logic.{_≢_, _⊎_, inl, inr}
-use mathlib.Core.Bool.{Bool, true, false}
+use mathlib.Core.Bool.{Bool, true}
 use mathlib.Core.List.{List, [], _∷_, _++_}
 use native.Mathlib.Omega.{arith}
 use Rattle.words.specs.declared.Frame.{Frame}
-use Rattle.lists.specs.Count.{cnt, cnt-append, cnt-cons, cnt-nil, eqb-self, cnt-self, counts}
+use Rattle.lists.specs.Count.{cnt, cnt-self, counts}
 use Rattle.table.specs.Points.{Point, pointOf}
-use Rattle.chains.specs.Seg.{Seg, seg-same}
-use Rattle.invariant.specs.Ghost.{Item, loose, owner, mark, Stack, floor, push, lists, flight, follow, origin, start}
-use Rattle.invariant.specs.Facts.{
-  Regs,
-  regs,
-  View,
-  Hot,
-  Loose,
-  e1,
-  e2,
-  e28-off,
-  e29,
-  d1,
-  d2,
-  d3,
-  d4,
-  d5,
-  d6,
-  d7,
-  Free,
-  Highest,
-  Aim,
-  behind,
-  before,
-  NotPast,
-  Walking,
-  Unlinked,
-  e3,
-  e4,
-  e5,
-  e6,
-  e7,
-  e8,
-  e9,
-  e13,
-  e14,
-  e15,
-  e16,
-  e17,
-  e18,
-  e21,
-  e22,
-  Cut,
-  Linked,
-  e10,
-  e11,
-  e12,
-  e19,
-  e20,
-  e23,
-  e24,
-  e25,
-  e26,
-  e27,
-  e28,
-  Here,
-  is-loose,
-  is-done,
-  is-owner,
-  is-mark,
-  Works,
-  Pile,
-  bottom,
-  upon,
-}
+use Rattle.chains.specs.Seg.{seg-same}
+use Rattle.invariant.specs.Ghost.{Item, loose, owner, mark, Stack, push, lists, flight, origin}
+use Rattle.invariant.specs.Facts.{Regs, regs, View, Hot, Loose, e1, e2, e28-off, e29, d1, d2, d3, d4, d5, d6, d7, Highest, Aim, behind, before, Unlinked, e3, e4, e5, e6, e7, e8, e9, e13, e14, e15, e16, e17, e18, e21, e22, Cut, Linked, e10, e11, e12, e19, e20, e23, e24, e25, e26, e27, e28, Here, is-loose, is-done, is-owner, is-mark, Works, Pile, bottom, upon}
 
 -- a function reads the goal before its arguments, a constructor does not
 pub upon′ : {top q : ℕ} {v : View} {fr : ℕ → Frame} {n l : ℕ} {p : Point} {i : Item} {st : Stack} {b b′ : Bool}

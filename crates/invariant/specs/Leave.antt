@@ -1,30 +1,29 @@
 -- E28, E29 and D1 to D7: an operation takes itself off the queue; a dequeue takes the first settled node out, and hands the sentinel in again.
-use Prim.Native.Nat.{ℕ, zero, suc, _+_, _-_, _≤_, _<_}
+use Prim.Native.Nat.{ℕ, _+_, _<_}
 use mathlib.Core.Path.{_≡_, refl, sym, ap, _∙_}
-use mathlib.Core.Logic.{_≢_, _⊎_, inl, inr}
+use mathlib.Core.Logic.{_≢_}
 use mathlib.Core.Bool.{Bool, true, false}
-use mathlib.Core.List.{List, [], _∷_, _++_, append-nil, append-assoc}
+use mathlib.Core.List.{List, [], _∷_, _++_, append-nil}
 use native.Mathlib.Omega.{arith}
 use lib.Dec.{eqb}
 use borrow.Author.Tests.{ne-eqb}
-use Rattle.words.specs.declared.Frame.{Frame}
 use Rattle.words.specs.declared.Word.the-variants.{Head, Next}
-use Rattle.words.specs.Layout.{level, node}
-use Rattle.lists.specs.Count.{Same, same, apart, same?, cnt, cnt-append, cnt-cons, cnt-nil, eqb-self, cnt-self, counts}
+use Rattle.words.specs.Layout.{level}
+use Rattle.lists.specs.Count.{Same, same, apart, same?, cnt, cnt-nil, cnt-self, counts}
 use Rattle.lists.specs.Beginning.{Beginning, without, without-self, begins-same}
-use Rattle.state.specs.Mem.{Mem, put, put-same, put-other, upd}
+use Rattle.state.specs.Mem.{put, put-same, put-other, upd}
 use Rattle.state.specs.Step.{memAfter, then}
 use Rattle.state.specs.Queues.{outOf}
-use Rattle.table.specs.Points.{Point, E1, E28, E29, D1, D2, D3, D4, D5, D6, D7, pointOf}
+use Rattle.table.specs.Points.{E1, E28, E29, D1, D2, D3, D4, D5, D6, D7, pointOf}
 use Rattle.table.specs.Laws.{point-is}
 use Rattle.table.specs.Table.{row}
-use Rattle.chains.specs.Member.{Last, differ}
-use Rattle.chains.specs.Seg.{Seg, stop, link, seg-put, seg-head, seg-rest, seg-nil, Walk, on, out, walk}
-use Rattle.invariant.specs.Ghost.{Item, loose, owner, mark, Stack, push, lists, flight, leaving, follow, origin, start}
-use Rattle.invariant.specs.Facts.{Regs, regs, View, Hot, Loose, e1, e28-off, e29, d1, d2, d3, d4, d5, d6, d7, Linked, e28, Here, is-loose, is-mark, is-done, Works, Pile}
+use Rattle.chains.specs.Member.{differ}
+use Rattle.chains.specs.Seg.{Seg, stop, link, seg-put, seg-rest, Walk, on, out, walk}
+use Rattle.invariant.specs.Ghost.{Item, loose, push, lists, flight, leaving, origin}
+use Rattle.invariant.specs.Facts.{regs, e1, e28-off, e29, d1, d2, d3, d4, d5, d6, d7, e28, Here, is-loose, is-mark, is-done, Pile}
 use Rattle.invariant.specs.Keep.{keep-all, keep-hot, no-dequeue}
 use Rattle.invariant.specs.Below.{hot-start, tail-in, start-own, none-leaving}
-use Rattle.invariant.specs.Turn.{view, Stand, StandIn, frontOf, Turn, Ok, goes-on, has-ended, by-eq, Case, stay, to, below-ln, below-lq, below-next}
+use Rattle.invariant.specs.Turn.{view, StandIn, frontOf, Turn, Ok, goes-on, has-ended, by-eq, Case, to, below-ln, below-lq, below-next}
 use Rattle.invariant.specs.Rules.{take-off}
 
 module _ (T : Turn) where

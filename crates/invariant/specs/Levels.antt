@@ -1,17 +1,17 @@
 -- One level's frame changes: what that means for the levels below it and for facts of all levels.
-use Prim.Native.Nat.{ℕ, zero, suc, _+_, _≤_, _<_}
+use Prim.Native.Nat.{ℕ, _≤_, _<_}
 use mathlib.Core.Path.{_≡_, refl, sym}
 use mathlib.Core.Logic.{_≢_}
 use mathlib.Core.Bool.{Bool, true, false}
-use mathlib.Core.List.{List, [], _++_, append-nil}
+use mathlib.Core.List.{[], _++_, append-nil}
 use native.Mathlib.Omega.{arith}
 use lib.Dec.{eqb, ltb}
 use borrow.Author.Tests.{ltb-true, ltb-false}
 use Rattle.words.specs.declared.Frame.{Frame}
-use Rattle.lists.specs.Count.{Same, same, apart, same?, cnt, cnt-append, cnt-cons, cnt-nil, eqb-self, counts}
+use Rattle.lists.specs.Count.{Same, same, apart, same?, counts}
 use Rattle.state.specs.Mem.{put, put-same, put-other}
 use Rattle.invariant.specs.Ghost.{Stack, lists, flight}
-use Rattle.invariant.specs.Facts.{View, Works, Pile, bottom, upon}
+use Rattle.invariant.specs.Facts.{View, Pile, bottom, upon}
 use Rattle.invariant.specs.Keep.{upon′, keep-all, the-same}
 
 -- a fact of every level: of l with its new frame, and of the others

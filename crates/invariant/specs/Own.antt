@@ -1,13 +1,13 @@
 -- The count that says which nodes are a queue's: 0 or 1, and how a use word changes it.
 use Prim.Native.Nat.{ℕ, _+_, _≤_, _<_}
-use mathlib.Core.Path.{_≡_, refl, sym, ap, _∙_}
+use mathlib.Core.Path.{_≡_, refl}
 use mathlib.Core.Logic.{_≢_, _⊎_, inl, inr}
 use mathlib.Core.Bool.{Bool, true, false, cond}
-use mathlib.Core.List.{List, [], _∷_}
+use mathlib.Core.List.{[], _∷_}
 use native.Mathlib.Omega.{arith}
 use lib.Dec.{eqb, ltb}
-use borrow.Author.Tests.{ltb-true, ltb-false, lt-ltb, eqb-true, eq-eqb, ne-eqb}
-use Rattle.lists.specs.Count.{Same, same, apart, same?, hit, cnt, cnt-cons, cnt-nil, eqb-self, cnt-append, counts}
+use borrow.Author.Tests.{ltb-true, ltb-false, lt-ltb, ne-eqb}
+use Rattle.lists.specs.Count.{Same, same, apart, same?, hit, cnt, cnt-cons, cnt-nil, eqb-self, counts}
 use Rattle.state.specs.Mem.{put, put-same, put-other}
 use Rattle.state.specs.Queues.{own}
 

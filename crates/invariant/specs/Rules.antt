@@ -1,26 +1,25 @@
 -- The rules by which the stores change the ghost state, each at the top of the stack:
 -- a chain is hung into the one below (E9, E18, E22), a cut is closed (E20, E24), a mark moves on (E11, E26), tail moves to a mark (E12, E27).
-use Prim.Native.Nat.{ℕ, zero, suc, _+_, _-_, _≤_, _<_}
+use Prim.Native.Nat.{ℕ, _+_, _≤_, _<_}
 use mathlib.Core.Path.{_≡_, refl, sym, ap, _∙_}
 use mathlib.Core.Logic.{_≢_, _⊎_, inl, inr}
 use mathlib.Core.Bool.{Bool, true, false}
-use mathlib.Core.List.{List, [], _∷_, _++_, append-nil, append-assoc, head-eq-of-cons-eq, tail-eq-of-cons-eq}
+use mathlib.Core.List.{List, [], _∷_, _++_, append-assoc, head-eq-of-cons-eq}
 use native.Mathlib.Omega.{arith}
-use Rattle.words.specs.declared.Frame.{Frame}
 use Rattle.words.specs.declared.Word.the-variants.{Next, Tail}
-use Rattle.words.specs.Layout.{level, node, queue}
-use Rattle.lists.specs.Count.{cnt, cnt-append, cnt-cons, cnt-nil, eqb-self, cnt-self, counts}
-use Rattle.lists.specs.Beginning.{Beginning, without, without-append, begins-more}
-use Rattle.state.specs.Mem.{Mem, put, put-same, put-other, upd}
+use Rattle.words.specs.Layout.{node, queue}
+use Rattle.lists.specs.Count.{cnt, cnt-self, counts}
+use Rattle.lists.specs.Beginning.{Beginning, without, without-append}
+use Rattle.state.specs.Mem.{Mem, put, put-same, upd}
 use Rattle.chains.specs.Member.{Last, differ}
 use Rattle.chains.specs.Seg.{Seg, stop, link, seg-put, seg-split, seg-join, seg-head, seg-rest, seg-turn-last, Walk, on, out, walk}
 use Rattle.table.specs.Frames.{ifEq, goTo, setC, walkTo}
 use Rattle.table.specs.declared.After.the-variants.{Go}
-use Rattle.invariant.specs.Ghost.{Item, loose, owner, mark, Stack, push, lists, flight, leaving, follow, origin, start}
-use Rattle.invariant.specs.Facts.{Regs, regs, View, Hot, Cut, Pile}
+use Rattle.invariant.specs.Ghost.{loose, owner, mark, push, lists, flight, leaving, follow, origin, start}
+use Rattle.invariant.specs.Facts.{Hot, Cut, Pile}
 use Rattle.invariant.specs.Keep.{keep-all, the-same}
-use Rattle.invariant.specs.Below.{hot-start, start-own}
-use Rattle.invariant.specs.Turn.{view, Stand, StandIn, frontOf, Turn, Ok, by-eq, below-next}
+use Rattle.invariant.specs.Below.{start-own}
+use Rattle.invariant.specs.Turn.{view, StandIn, frontOf, Turn, Ok, by-eq, below-next}
 
 -- a list cut behind c still begins as it did
 begins-cut : (s c : ℕ) (pre rest more : List ℕ) → pre ++ c ∷ rest ≡ s ∷ more → (m : List ℕ) × (pre ++ c ∷ [] ≡ s ∷ m)

@@ -1,26 +1,22 @@
 -- The invariant of queue q in a state, with the frozen front of the queue: its nodes, once each, are those settled, those of the hot list, and those of the operations on it.
 -- It holds of every queue at rest, and a queue at rest that has it is one chain from head to tail.
-use Prim.Native.Nat.{ℕ, zero, suc, _+_, _≤_, _<_}
-use mathlib.Core.Path.{_≡_, refl, sym, ap, _∙_}
-use mathlib.Core.Logic.{_≢_, _⊎_, inl, inr}
-use mathlib.Core.Bool.{Bool, true, false}
+use Prim.Native.Nat.{ℕ, _≤_, _<_}
+use mathlib.Core.Path.{_≡_, refl, ap, _∙_}
+use mathlib.Core.Logic.{_≢_}
+use mathlib.Core.Bool.{Bool, false}
 use mathlib.Core.List.{List, [], _∷_, _++_}
 use native.Mathlib.Omega.{arith}
 use Rattle.words.specs.declared.Sizes.{Sizes}
-use Rattle.words.specs.declared.Frame.{Frame}
-use Rattle.lists.specs.Count.{cnt, cnt-append, cnt-cons, cnt-nil, eqb-self, counts}
+use Rattle.lists.specs.Count.{cnt, counts}
 use Rattle.lists.specs.Beginning.{without}
 use Rattle.state.specs.Step.{State}
-use Rattle.state.specs.Queues.{On, own, Apart, Alike, still, others}
-use Rattle.table.specs.Points.{pointOf}
+use Rattle.state.specs.Queues.{On, own}
 use Rattle.chains.specs.Member.{Last}
 use Rattle.chains.specs.Seg.{Seg, stop, link, seg-split, seg-join, seg-head, seg-rest, seg-nil}
-use Rattle.invariant.specs.Ghost.{Item, Stack, floor, push, lists, flight, leaving, follow, origin, start, Listed}
-use Rattle.invariant.specs.Facts.{regs, View, Hot, Here, Works, Pile, bottom, upon}
-use Rattle.invariant.specs.Keep.{keep, keep-hot, the-same}
-use Rattle.invariant.specs.Below.{listed-below}
+use Rattle.invariant.specs.Ghost.{Stack, floor, Listed}
+use Rattle.invariant.specs.Facts.{Pile, bottom, upon}
 use Rattle.invariant.specs.Own.{own-in}
-use Rattle.invariant.specs.Turn.{view, Stand, StandIn, frontOf}
+use Rattle.invariant.specs.Turn.{view, StandIn, frontOf}
 
 pub record Sound (s : Sizes) (q : ℕ) (W : State) (front : List ℕ) : Type 0 where
   -- the ghost state

@@ -1,32 +1,30 @@
 -- A step of the highest frame keeps the invariant of the queue that it is on.
-use Prim.Native.Nat.{ℕ, zero, suc, _+_, _≤_, _<_}
+use Prim.Native.Nat.{ℕ, _+_, _≤_, _<_}
 use mathlib.Core.Path.{_≡_, refl, sym, ap, _∙_}
 use mathlib.Core.Logic.{_≢_, _⊎_, inl, inr}
 use mathlib.Core.Bool.{Bool, true, false, cond}
-use mathlib.Core.List.{List, [], _∷_, _++_, append-nil}
+use mathlib.Core.List.{List, [], _∷_, _++_}
 use native.Mathlib.Omega.{arith}
 use lib.Dec.{eqb}
 use Rattle.words.specs.declared.Sizes.{Sizes}
 use Rattle.words.specs.declared.Frame.{Frame}
-use Rattle.words.specs.declared.Word.{Word}
 use Rattle.words.specs.declared.Word.the-variants.{LevelNode, LevelQueue, Head, Tail, Next, Use}
 use Rattle.words.specs.Layout.{level, noFrame}
-use Rattle.lists.specs.Count.{Same, same, apart, same?, cnt, cnt-append, cnt-cons, cnt-nil, eqb-self, counts}
-use Rattle.lists.specs.Beginning.{Beginning, without}
-use Rattle.state.specs.Mem.{Mem, put, put-same, put-other, upd}
+use Rattle.lists.specs.Count.{Same, same, apart, same?, cnt, counts}
+use Rattle.lists.specs.Beginning.{Beginning}
+use Rattle.state.specs.Mem.{Mem, put, put-same, put-other}
 use Rattle.state.specs.Step.{State, memAfter, then, frameAfter, rowOf, stepped}
-use Rattle.state.specs.Queues.{On, own, Mine, Within, load, store, free, outOf}
+use Rattle.state.specs.Queues.{On, own, Within, load, store, free, outOf}
 use Rattle.table.specs.Points.{Point, points, pointIn, pointOf, numberOf, E1, E2, E3, E4, E5, E6, E7, E8, E9, E10, E11, E12, E13, E14, E15, E16, E17, E18, E19, E20, E21, E22, E23, E24, E25, E26, E27, E28, E29, D1, D2, D3, D4, D5, D6, D7, Unknown}
 use Rattle.table.specs.Laws.{point-is}
 use Rattle.table.specs.Frames.{counted}
 use Rattle.table.specs.Table.{Row, row}
 use Rattle.table.specs.declared.After.{After}
-use Rattle.table.specs.declared.After.the-variants.{Go, Done}
-use Rattle.invariant.specs.Ghost.{Item, loose, owner, mark, Stack, floor, push, lists, flight, leaving, follow, origin, start, Listed}
-use Rattle.invariant.specs.Facts.{Regs, regs, View, Hot, Here, is-loose, d1, d2, d3, d4, d5, d6, d7, Works, Pile, bottom, upon}
-use Rattle.invariant.specs.Keep.{upon′, keep-all, keep-hot, the-same}
+use Rattle.invariant.specs.Ghost.{Item, Stack, push, Listed}
+use Rattle.invariant.specs.Facts.{Regs, regs, View, Here, is-loose, d1, d2, d3, d4, d5, d6, d7, Works, Pile, upon}
+use Rattle.invariant.specs.Keep.{upon′}
 use Rattle.invariant.specs.Below.{listed-below, listed-lower}
-use Rattle.invariant.specs.Turn.{view, Stand, StandIn, frontOf, Turn, Ok, goes-on, has-ended}
+use Rattle.invariant.specs.Turn.{view, StandIn, frontOf, Turn, Ok, goes-on, has-ended}
 use Rattle.invariant.specs.Enter.{e1-ok, e2-ok, e3-ok, e4-ok, e5-ok, e6-ok}
 use Rattle.invariant.specs.Append.{e7-ok, e8-ok, e9-ok, e10-ok, e11-ok, e12-ok}
 use Rattle.invariant.specs.Search.{e13-ok, e14-ok, e15-ok, e16-ok}

@@ -1,7 +1,7 @@
 -- One operation's turn: what its step must leave. The frame f at level l is the highest on the queue, over the stack st.
-use Prim.Native.Nat.{ℕ, zero, suc, _+_, _≤_, _<_}
-use mathlib.Core.Path.{_≡_, refl, sym, ap, _∙_}
-use mathlib.Core.Logic.{_≢_, _⊎_, inl, inr}
+use Prim.Native.Nat.{ℕ, _+_, _≤_, _<_}
+use mathlib.Core.Path.{_≡_, refl, sym}
+use mathlib.Core.Logic.{_≢_}
 use mathlib.Core.Bool.{Bool, true, false, cond}
 use mathlib.Core.List.{List, [], _∷_, _++_, append-nil}
 use native.Mathlib.Omega.{arith}
@@ -9,10 +9,10 @@ use lib.Dec.{eqb}
 use Rattle.words.specs.declared.Frame.{Frame}
 use Rattle.words.specs.declared.Node.{Node}
 use Rattle.words.specs.Layout.{level}
-use Rattle.lists.specs.Count.{Same, same, apart, same?, cnt, cnt-append, cnt-cons, cnt-nil, eqb-self, counts}
+use Rattle.lists.specs.Count.{Same, same, apart, same?, cnt, cnt-append, counts}
 use Rattle.lists.specs.Beginning.{Beginning, without, begins-same}
 use Rattle.words.specs.declared.Word.the-variants.{LevelNode, LevelQueue, Next}
-use Rattle.state.specs.Mem.{Mem, put, put-same, put-other, upd}
+use Rattle.state.specs.Mem.{Mem, put-other, upd}
 use Rattle.state.specs.Step.{memAfter, then}
 use Rattle.state.specs.Queues.{outOf}
 use Rattle.table.specs.Points.{Point, numberOf, pointOf}
@@ -22,9 +22,9 @@ use Rattle.table.specs.Table.{row}
 use Rattle.table.specs.declared.After.{After}
 use Rattle.table.specs.declared.After.the-variants.{Go, Done}
 use Rattle.chains.specs.Seg.{Seg}
-use Rattle.invariant.specs.Ghost.{Item, loose, owner, mark, Stack, floor, push, lists, flight, leaving, follow, origin, start, Listed}
-use Rattle.invariant.specs.Facts.{Regs, regs, View, Hot, Here, Works, Pile}
-use Rattle.invariant.specs.Keep.{keep-all, Fetches, the-same}
+use Rattle.invariant.specs.Ghost.{Item, Stack, push, lists, flight, leaving, follow, origin, start, Listed}
+use Rattle.invariant.specs.Facts.{regs, View, Hot, Here, Works, Pile}
+use Rattle.invariant.specs.Keep.{keep-all, the-same}
 
 -- what queue q's facts read in a memory
 abbrev pub view : ℕ → Mem → List ℕ → View

@@ -1,17 +1,17 @@
 -- Each step's access is to a word that the table has, and its store is to a word of its own queue, point by point: so refusal 10 never comes, and queues stand apart.
-use Prim.Native.Nat.{ℕ, zero, suc, _+_, _-_, _≤_, _<_}
-use mathlib.Core.Path.{_≡_, refl, sym, ap, _∙_}
+use Prim.Native.Nat.{ℕ, _+_, _≤_, _<_}
+use mathlib.Core.Path.{_≡_, refl, sym, _∙_}
 use mathlib.Core.Logic.{_≢_, _⊎_, inl, inr}
-use mathlib.Core.Bool.{Bool, true, false, cond}
-use mathlib.Core.List.{List, [], _∷_, _++_}
+use mathlib.Core.Bool.{Bool}
+use mathlib.Core.List.{List}
 use native.Mathlib.Omega.{arith}
 use Rattle.words.specs.declared.Sizes.{Sizes}
 use Rattle.words.specs.declared.Frame.{Frame}
 use Rattle.words.specs.Layout.{level}
 use Rattle.words.specs.Laws.{Bound}
-use Rattle.lists.specs.Count.{cnt, cnt-append, cnt-cons, cnt-nil, eqb-self, cnt-self, counts}
+use Rattle.lists.specs.Count.{cnt, counts}
 use Rattle.state.specs.Step.{State}
-use Rattle.state.specs.Queues.{On, own, Mine, Within, load, store, free}
+use Rattle.state.specs.Queues.{On, own, Within, load, store, free}
 use Rattle.table.specs.Points.{Point, E1, E2, E3, E4, E5, E6, E7, E8, E9, E10, E11, E12, E13, E14, E15, E16, E17, E18, E19, E20, E21, E22, E23, E24, E25, E26, E27, E28, E29, D1, D2, D3, D4, D5, D6, D7, Unknown}
 use Rattle.table.specs.Table.{row, loads, stores}
 use Rattle.table.specs.declared.After.{After}
@@ -20,59 +20,8 @@ use Rattle.words.specs.declared.Word.the-variants.{Next, LevelQueue}
 use Rattle.words.specs.declared.Word.{Word}
 use Rattle.words.specs.declared.Level.{Level}
 use Rattle.chains.specs.Member.{last-in}
-use Rattle.invariant.specs.Ghost.{Item, loose, owner, mark, Stack, push, lists, flight, follow, origin, start, Listed}
-use Rattle.invariant.specs.Facts.{
-  Regs,
-  regs,
-  View,
-  Hot,
-  Loose,
-  Unlinked,
-  Linked,
-  Here,
-  is-loose,
-  is-done,
-  is-owner,
-  is-mark,
-  Pile,
-  e1,
-  e2,
-  e28-off,
-  e29,
-  d1,
-  d2,
-  d3,
-  d4,
-  d5,
-  d6,
-  d7,
-  e3,
-  e4,
-  e5,
-  e6,
-  e7,
-  e8,
-  e9,
-  e13,
-  e14,
-  e15,
-  e16,
-  e17,
-  e18,
-  e21,
-  e22,
-  e10,
-  e11,
-  e12,
-  e19,
-  e20,
-  e23,
-  e24,
-  e25,
-  e26,
-  e27,
-  e28,
-}
+use Rattle.invariant.specs.Ghost.{Item, Stack, push, lists, flight, follow, origin, start}
+use Rattle.invariant.specs.Facts.{Regs, regs, View, Hot, Loose, Unlinked, Linked, Here, is-loose, is-owner, is-mark, Pile, d3, d4, d6, d7, e3, e4, e6, e8, e9, e13, e14, e16, e17, e18, e21, e22, e10, e19, e20, e23, e24}
 use Rattle.invariant.specs.Own.{own-le, own-user}
 use Rattle.invariant.specs.Keep.{aim-first}
 use Rattle.invariant.specs.Below.{hot-start, nobody}
