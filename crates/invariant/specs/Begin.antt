@@ -19,10 +19,10 @@ use Rattle.table.specs.Points.{pointOf, E1, D1}
 use Rattle.table.specs.Laws.{point-is}
 use Rattle.table.specs.Frames.{frame}
 use Rattle.invariant.specs.Ghost.{loose, push, Listed}
-use Rattle.invariant.specs.Facts.{regs, Here, is-loose, e1, d1, Works}
+use Rattle.invariant.specs.Facts.{is-loose, e1, d1, Works}
 use Rattle.invariant.specs.Keep.{upon′}
 use Rattle.invariant.specs.Own.{own-begun}
-use Rattle.invariant.specs.Turn.{view}
+use Rattle.invariant.specs.Turn.{ownIn, HereIn}
 use Rattle.invariant.specs.Levels.{each, same-frames, sink}
 use Rattle.invariant.specs.Sound.{Sound}
 
@@ -35,8 +35,8 @@ module _ (s : Sizes) (q : ℕ) (W : State) (front : List ℕ) (d : Sound s q W f
   off : W .mem .lq l ≢ q
   off e = d .registered l e .0 (idle l (omega arith))
 
-  module _ (g : Frame) (uses : ℕ → ℕ) (ins : List ℕ) (works : Works q g) (here : Here (s .levels) q (view q (W .mem) (d .settled)) l (regs g) (pointOf (g .point)) (loose ins []) (d .stack) (d .done) (d .done))
-      (more : (y : ℕ) → own (s .queues) uses q y ≡ cnt y ins + own (s .queues) (W .mem .uses) q y) (nodes : (y : ℕ) → own (s .queues) uses q y ≡ 1 → (1 ≤ y) × (y ≤ s .nodes))
+  module _ (g : Frame) (uses : ℕ → ℕ) (ins : List ℕ) (works : Works q g) (here : HereIn s q W (d .settled) l g (pointOf (g .point)) (loose ins []) (d .stack) (d .done) (d .done))
+      (more : (y : ℕ) → own (s .queues) uses q y ≡ cnt y ins + ownIn s q W y) (nodes : (y : ℕ) → own (s .queues) uses q y ≡ 1 → (1 ≤ y) × (y ≤ s .nodes))
       (first : g .op ≡ 2 → (j : ℕ) → On q (W .frames j) → W .frames j .op ≢ 2) where
     one : (i j : ℕ) → On q (put (W .frames) l g i) → On q (put (W .frames) l g j) → put (W .frames) l g i .op ≡ 2 → put (W .frames) l g j .op ≡ 2 → i ≡ j
     one i j = each (W .frames) l (λ i f. On q f → On q (put (W .frames) l g j) → f .op ≡ 2 → put (W .frames) l g j .op ≡ 2 → i ≡ j) g

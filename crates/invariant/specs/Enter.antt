@@ -13,11 +13,11 @@ use Rattle.table.specs.Frames.{belowKTo, belowMTo}
 use Rattle.table.specs.Table.{row}
 use Rattle.chains.specs.Seg.{stop, link}
 use Rattle.invariant.specs.Ghost.{loose, owner, push, follow, origin, start}
-use Rattle.invariant.specs.Facts.{e1, e2, Free, Aim, behind, before, NotPast, e3, e4, e5, e6, e7, e13, e15, is-loose, is-owner, Pile}
+use Rattle.invariant.specs.Facts.{e1, e2, Free, Aim, behind, before, NotPast, e3, e4, e5, e6, e7, e13, e15, is-loose, is-owner}
 use Rattle.invariant.specs.Below.{hot-start, Shown, at-owner, at-mark, at-done, shown, taken-off}
 use Rattle.words.specs.Layout.{level}
 use Rattle.state.specs.Step.{memAfter, then}
-use Rattle.invariant.specs.Turn.{view, Stand, frontOf, Turn, Ok, by-eq, Case, to, below-ln, below-lq}
+use Rattle.invariant.specs.Turn.{Stand, Turn, Ok, by-eq, Case, to, below-ln, below-lq, Below, front}
 
 -- k itself is not registered either
 free-down : {q k l : ℕ} {lq : ℕ → ℕ} → lq k ≢ q → Free lq q k l → (j : ℕ) → k ≤ j → j < l → lq j ≢ q
@@ -79,16 +79,16 @@ module _ (T : Turn) where
       o = origin top st
 
       Next : Type 0
-      Next = Ok T own (frontOf q M S (push l (owner (f .node .0) y) st)) [] (memAfter M (row E5 f (level l) (level top))) (then M (row E5 f (level l) (level top)) f)
+      Next = Ok T own (front T M S (owner (f .node .0) y)) [] (memAfter M (row E5 f (level l) (level top))) (then M (row E5 f (level l) (level top)) f)
 
       -- E13 or E15, the search
-      search : (d : Pile top q (view q M S) fr l st false) → (k ≡ 0 → Aim top o (start (M .tail q) st) (follow st) (f .p .0) (o ≡ top)) → (k ≢ 0 → Aim top o (start (M .tail q) st) (follow st) (f .p .0) (NotPast top o (k - 1))) → f .p .0 ≢ M .tail q → Next
+      search : (d : Below T M S false) → (k ≡ 0 → Aim top o (start (M .tail q) st) (follow st) (f .p .0) (o ≡ top)) → (k ≢ 0 → Aim top o (start (M .tail q) st) (follow st) (f .p .0) (NotPast top o (k - 1))) → f .p .0 ≢ M .tail q → Next
       search d a c ne = by-eq T (λ i. absurd (ne (sym (rw (T .here .queued) at i))))
           (λ i. by-eq T
           (λ j. to T E15 (owner (f .node .0) y) refl refl refl (is-owner z n t (e15 refl (a j))) d s)
           (λ j. to T E13 (owner (f .node .0) y) refl refl refl (is-owner z n t (e13 refl (c j) (omega (arith, h .below)))) d s))
 
-      by : (b : Bool) (d : Pile top q (view q M S) fr l st b) → Shown top (M .tail q) o (start (M .tail q) st) (follow st) k (M .ln k) b → Next
+      by : (b : Bool) (d : Below T M S b) → Shown top (M .tail q) o (start (M .tail q) st) (follow st) k (M .ln k) b → Next
       by _ d (at-owner a r i ne) = search d (λ j. behind a r (e ∙ i)) (λ j. behind a r (e ∙ i)) (λ j. ne (sym e ∙ j))
       by _ d (at-mark i ne a tl) = search d (λ j. before (e ∙ i) (λ w. ne (sym e ∙ w)) (own-chain j)) (λ j. before (e ∙ i) (λ w. ne (sym e ∙ w)) (λ r. omega (arith, a r))) (λ j. tl (sym e ∙ j))
         where

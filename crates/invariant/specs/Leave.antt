@@ -19,11 +19,11 @@ use Rattle.table.specs.Laws.{point-is}
 use Rattle.table.specs.Table.{row}
 use Rattle.chains.specs.Member.{differ}
 use Rattle.chains.specs.Seg.{Seg, stop, link, seg-put, seg-rest, Walk, on, out, walk}
-use Rattle.invariant.specs.Ghost.{Item, loose, push, lists, flight, leaving, origin}
-use Rattle.invariant.specs.Facts.{regs, e1, e28-off, e29, d1, d2, d3, d4, d5, d6, d7, e28, Here, is-loose, is-mark, is-done, Pile}
+use Rattle.invariant.specs.Ghost.{Item, loose, lists, flight, leaving, origin}
+use Rattle.invariant.specs.Facts.{e1, e28-off, e29, d1, d2, d3, d4, d5, d6, d7, e28, is-loose, is-mark, is-done}
 use Rattle.invariant.specs.Keep.{keep-all, keep-hot, no-dequeue}
 use Rattle.invariant.specs.Below.{hot-start, tail-in, start-own, none-leaving}
-use Rattle.invariant.specs.Turn.{view, StandIn, frontOf, Turn, Ok, goes-on, has-ended, by-eq, Case, to, below-ln, below-lq, below-next}
+use Rattle.invariant.specs.Turn.{view, Turn, Ok, goes-on, has-ended, by-eq, Case, to, below-ln, below-lq, below-next, At, Below, Lists, Left, front}
 use Rattle.invariant.specs.Rules.{take-off}
 
 module _ (T : Turn) where
@@ -41,7 +41,7 @@ module _ (T : Turn) where
   e28-ok at S x _ b _ (is-loose z e28-off) d s = to T E29 (loose [] []) refl refl refl (is-loose off e29) (below-lq T d 0) s
 
   -- an item that holds nothing is not missed
-  bare : {S x : List ℕ} → StandIn top q own M S x (push l (loose [] []) st) → StandIn top q own M S x st
+  bare : {S x : List ℕ} → Lists T own M S x (loose [] []) → Left T own M S x
   bare s = record { hot = s .hot; settled = s .settled; all = s .all }
 
   pub e29-ok : Case T E29
@@ -69,7 +69,7 @@ module _ (T : Turn) where
       to T D3 (loose [] []) refl refl refl (is-loose z (d3 o (r .1 ∙ ap (λ y. y ∷ r .0) (sym e)))) d s)
 
   -- tail is a node
-  tail-some : {S x : List ℕ} {b : Bool} → Pile top q (view q M S) fr l st b → StandIn top q own M S x (push l (loose [] []) st) → M .tail q ≢ 0
+  tail-some : {S x : List ℕ} {b : Bool} → Below T M S b → Lists T own M S x (loose [] []) → M .tail q ≢ 0
   tail-some {S} {x} d s = by (eqb (origin top st) top) (same? (origin top st) top)
     where
       by : (t : Bool) → Same (origin top st) top t → M .tail q ≢ 0
@@ -77,7 +77,7 @@ module _ (T : Turn) where
       by false (apart o) = differ (lists st) (tail-in (omega (arith, T .below)) d o) (omega (arith, s .all 0, T .none))
 
   -- c is settled and not tail, so its link leads to a settled node or to tail: D3 never ends a dequeue
-  pub d3-goes-on : {S x : List ℕ} {i : Item} {b b′ : Bool} → Here top q (view q M S) l (regs f) D3 i st b b′ → Pile top q (view q M S) fr l st b → StandIn top q own M S x (push l i st) → M .next (f .c .0) ≢ 0
+  pub d3-goes-on : {S x : List ℕ} {i : Item} {b b′ : Bool} → At T M S f D3 i b b′ → Below T M S b → Lists T own M S x i → M .next (f .c .0) ≢ 0
   d3-goes-on (is-loose z (d3 {R = R} o e)) d s i = by (walk (f .c .0) (rw e at (s .settled)) (cnt-self (f .c .0) R))
     where
       by : Walk (M .next) (f .c .0) (M .tail q) (f .c .0 ∷ R) R → ⊥
@@ -93,16 +93,16 @@ module _ (T : Turn) where
   d4-ok at S x _ b _ (is-loose z (d4 o e)) d s = to T D5 (loose [] []) refl refl refl (is-loose z (d5 o e refl)) d s
 
   -- head moves on: the first settled node is in flight, the sentinel to come in again, any other to go out
-  module _ {S R x : List ℕ} {b : Bool} (o : f .op ≡ 2) (e : S ≡ f .c .0 ∷ R) (r : f .r .0 ≡ M .next (f .c .0)) (d : Pile top q (view q M S) fr l st b)
-      (s : StandIn top q own M S x (push l (loose [] []) st)) where
-    pile : Pile top q (view q (upd M (Head (f .queue)) (f .r .0)) R) fr l st b
+  module _ {S R x : List ℕ} {b : Bool} (o : f .op ≡ 2) (e : S ≡ f .c .0 ∷ R) (r : f .r .0 ≡ M .next (f .c .0)) (d : Below T M S b)
+      (s : Lists T own M S x (loose [] [])) where
+    pile : Below T (upd M (Head (f .queue)) (f .r .0)) R b
     pile = keep-all (view q M S) (view q (upd M (Head (f .queue)) (f .r .0)) R) fr fr l (lists st ++ flight st) (omega (arith, T .below)) (λ j m. refl) (λ j m. refl) (λ j m. refl) (λ y m. refl)
         (λ j m n. no-dequeue (T .alone o j m n)) (omega arith) (λ y. simp counts (omega arith)) (λ k. refl) d
 
     head= : put (M .head) (f .queue .0) (f .r .0) q ≡ M .next (f .c .0)
     head= = rw (T .here .queued) (put-same (M .head) q (f .r .0)) ∙ r
 
-    taken : (ins outs : List ℕ) → ((y : ℕ) → cnt y ins + cnt y outs ≡ cnt y (f .c .0 ∷ [])) → StandIn top q own (upd M (Head (f .queue)) (f .r .0)) R x (push l (loose ins outs) st)
+    taken : (ins outs : List ℕ) → ((y : ℕ) → cnt y ins + cnt y outs ≡ cnt y (f .c .0 ∷ [])) → Lists T own (upd M (Head (f .queue)) (f .r .0)) R x (loose ins outs)
     taken ins outs h = record {
       hot = s .hot;
       settled = rw head= (seg-rest (rw e at (s .settled)));
@@ -113,7 +113,7 @@ module _ (T : Turn) where
     none-out = none-leaving d (T .alone o)
 
     front-then : (outs : List ℕ) → without q (f .c .0 ∷ (R ++ M .tail q ∷ [])) ≡ without q (outs ++ (R ++ M .tail q ∷ []))
-        → Beginning (frontOf q M S (push l (loose [] []) st)) (frontOf q (upd M (Head (f .queue)) (f .r .0)) R (push l (loose [] outs) st))
+        → Beginning (front T M S (loose [] [])) (front T (upd M (Head (f .queue)) (f .r .0)) R (loose [] outs))
     front-then outs h = rw (none-out, e, append-nil outs) ([], append-nil _ ∙ h)
 
   pub d5-ok : Case T D5
@@ -125,14 +125,14 @@ module _ (T : Turn) where
       (front-then o e r d s (f .c .0 ∷ []) refl))
 
   -- a node in flight gets next 0: nothing of the lists moves
-  module _ {S x ins outs : List ℕ} {b : Bool} (h : 0 < cnt (f .c .0) ins + cnt (f .c .0) outs) (d : Pile top q (view q M S) fr l st b) (s : StandIn top q own M S x (push l (loose ins outs) st)) where
+  module _ {S x ins outs : List ℕ} {b : Bool} (h : 0 < cnt (f .c .0) ins + cnt (f .c .0) outs) (d : Below T M S b) (s : Lists T own M S x (loose ins outs)) where
     c-once : cnt (f .c .0) S + (cnt (f .c .0) x + (cnt (f .c .0) (lists st) + cnt (f .c .0) (flight st))) ≡ 0
     c-once = omega (arith, simp counts at (s .all (f .c .0)), T .once (f .c .0))
 
-    pile-0 : Pile top q (view q (upd M (Next (f .c)) 0) S) fr l st b
+    pile-0 : Below T (upd M (Next (f .c)) 0) S b
     pile-0 = below-next T d (f .c .0) 0 (omega (arith, c-once))
 
-    stand-0 : StandIn top q own (upd M (Next (f .c)) 0) S x (push l (loose ins outs) st)
+    stand-0 : Lists T own (upd M (Next (f .c)) 0) S x (loose ins outs)
     stand-0 = record {
       hot = keep-hot (λ y (m : 0 < cnt y x). put-other (M .next) (f .c .0) 0 y (λ i. let j : cnt y x ≡ 0 = rw i (omega (arith, c-once)) in omega arith)) (s .hot);
       settled = seg-put (f .c .0) 0 (omega (arith, c-once)) (s .settled);
@@ -151,7 +151,7 @@ module _ (T : Turn) where
       in-flight : 0 < cnt (f .c .0) (f .c .0 ∷ []) + cnt (f .c .0) []
       in-flight = simp counts (omega arith)
 
-      t : StandIn top q own (upd M (Next (f .c)) 0) S x (push l (loose (f .c .0 ∷ []) []) st)
+      t : Lists T own (upd M (Next (f .c)) 0) S x (loose (f .c .0 ∷ []) [])
       t = stand-0 in-flight d s
 
   without-other : (x : ℕ) (xs : List ℕ) → x ≢ q → without q (x ∷ xs) ≡ x ∷ without q xs
@@ -160,8 +160,8 @@ module _ (T : Turn) where
 
   -- the node goes out: the queue has one node less
   pub d7-ok : (own′ : ℕ → ℕ) → ((y : ℕ) → own y ≡ cnt y (f .c .0 ∷ []) + own′ y) → pointOf (f .point) ≡ D7 → (S x : List ℕ) (i : Item) (b b′ : Bool)
-      → Here top q (view q M S) l (regs f) D7 i st b b′ → Pile top q (view q M S) fr l st b → StandIn top q own M S x (push l i st)
-      → Ok T own′ (frontOf q M S (push l i st)) (outOf (row D7 f (level l) (level top))) (memAfter M (row D7 f (level l) (level top))) (then M (row D7 f (level l) (level top)) f)
+      → At T M S f D7 i b b′ → Below T M S b → Lists T own M S x i
+      → Ok T own′ (front T M S i) (outOf (row D7 f (level l) (level top))) (memAfter M (row D7 f (level l) (level top))) (then M (row D7 f (level l) (level top)) f)
   unfolding row
   d7-ok own′ less at S x _ b _ (is-loose z (d7 o e)) d s =
       has-ended z (pile-0 in-flight d s) (record { hot = t .hot; settled = t .settled; all = λ y. omega (arith, simp counts at (t .all y), simp counts at (less y)) })
@@ -170,5 +170,5 @@ module _ (T : Turn) where
       in-flight : 0 < cnt (f .c .0) [] + cnt (f .c .0) (f .c .0 ∷ [])
       in-flight = simp counts (omega arith)
 
-      t : StandIn top q own (upd M (Next (f .c)) 0) S x (push l (loose [] (f .c .0 ∷ [])) st)
+      t : Lists T own (upd M (Next (f .c)) 0) S x (loose [] (f .c .0 ∷ []))
       t = stand-0 in-flight d s

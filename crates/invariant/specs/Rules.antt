@@ -15,11 +15,11 @@ use Rattle.chains.specs.Member.{Last, differ}
 use Rattle.chains.specs.Seg.{Seg, stop, link, seg-put, seg-split, seg-join, seg-head, seg-rest, seg-turn-last, Walk, on, out, walk}
 use Rattle.table.specs.Frames.{ifEq, goTo, setC, walkTo}
 use Rattle.table.specs.declared.After.the-variants.{Go}
-use Rattle.invariant.specs.Ghost.{loose, owner, mark, push, lists, flight, leaving, follow, origin, start}
-use Rattle.invariant.specs.Facts.{Hot, Cut, Pile}
+use Rattle.invariant.specs.Ghost.{loose, owner, mark, lists, flight, leaving, follow, origin, start}
+use Rattle.invariant.specs.Facts.{Cut}
 use Rattle.invariant.specs.Keep.{keep-all, the-same}
 use Rattle.invariant.specs.Below.{start-own}
-use Rattle.invariant.specs.Turn.{view, StandIn, frontOf, Turn, Ok, by-eq, below-next}
+use Rattle.invariant.specs.Turn.{view, Turn, Ok, by-eq, below-next, Below, Lists, front, HotBelow}
 
 -- a list cut behind c still begins as it did
 begins-cut : (s c : ℕ) (pre rest more : List ℕ) → pre ++ c ∷ rest ≡ s ∷ more → (m : List ℕ) × (pre ++ c ∷ [] ≡ s ∷ m)
@@ -42,13 +42,13 @@ module _ (T : Turn) where
 
   -- n's chain n ∷ w is hung behind c, a node of the hot list y below: what stood behind c joins the piece
   pub record Hung (S : List ℕ) (b : Bool) (n c : ℕ) (w pre rest : List ℕ) : Type 0 where
-    pub pile : Pile top q (view q (upd M (Next (node c)) n) S) fr l st b
-    pub stand : StandIn top q own (upd M (Next (node c)) n) S (pre ++ c ∷ []) (push l (mark n (w ++ rest)) st)
+    pub pile : Below T (upd M (Next (node c)) n) S b
+    pub stand : Lists T own (upd M (Next (node c)) n) S (pre ++ c ∷ []) (mark n (w ++ rest))
     pub ends : Seg (put (M .next) c n) n (n ∷ w) 0
     pub hangs : Seg (put (M .next) c n) (M .next c) rest (follow st)
 
-  pub hang : {b : Bool} {S x y : List ℕ} (n c : ℕ) (pre rest : List ℕ) → y ≡ pre ++ c ∷ rest → Hot top (M .next) (origin top st) (start (M .tail q) st) (follow st) y
-      → Pile top q (view q M S) fr l st b → (s : StandIn top q own M S x (push l (owner n y) st)) → Hung S b n c (s .hot .more) pre rest
+  pub hang : {b : Bool} {S x y : List ℕ} (n c : ℕ) (pre rest : List ℕ) → y ≡ pre ++ c ∷ rest → HotBelow T y
+      → Below T M S b → (s : Lists T own M S x (owner n y)) → Hung S b n c (s .hot .more) pre rest
   hang {b} {S} {x} {y} n c pre rest e t d s = record
       { pile = below-next T d c n (omega (arith, c-once)); stand = stand; ends = seg-put c n (omega (arith, c-once)) chain; hangs = seg-put c n (omega (arith, c-once)) (seg-rest (two .2)) }
     where
@@ -71,7 +71,7 @@ module _ (T : Turn) where
       begins : (m : List ℕ) × (pre ++ c ∷ [] ≡ start (M .tail q) st ∷ m)
       begins = begins-cut (start (M .tail q) st) c pre rest (t .more) (sym e ∙ t .begins)
 
-      stand : StandIn top q own (upd M (Next (node c)) n) S (pre ++ c ∷ []) (push l (mark n (w ++ rest)) st)
+      stand : Lists T own (upd M (Next (node c)) n) S (pre ++ c ∷ []) (mark n (w ++ rest))
       stand = record {
         hot = record {
           more = begins .0;
@@ -85,12 +85,12 @@ module _ (T : Turn) where
 
   -- the cut of the piece p ∷ w behind c is closed with r, on which the rest hangs
   pub record Closed (S x : List ℕ) (b : Bool) (p c r : ℕ) (w : List ℕ) : Type 0 where
-    pub pile : Pile top q (view q (upd M (Next (node c)) r) S) fr l st b
-    pub stand : StandIn top q own (upd M (Next (node c)) r) S x (push l (mark p w) st)
+    pub pile : Below T (upd M (Next (node c)) r) S b
+    pub stand : Lists T own (upd M (Next (node c)) r) S x (mark p w)
     pub whole : Seg (put (M .next) c r) p (p ∷ w) (follow st)
 
   pub close : {b : Bool} {S x w : List ℕ} {p r : ℕ} (c : ℕ) (u : Cut (M .next) p w r (follow st)) → Last c (p ∷ u .block)
-      → Pile top q (view q M S) fr l st b → StandIn top q own M S x (push l (mark p w) st) → Closed S x b p c r w
+      → Below T M S b → Lists T own M S x (mark p w) → Closed S x b p c r w
   close {b} {S} {x} {w} {p} {r} c u e d s = record {
     pile = below-next T d c r (omega (arith, c-once));
     stand = record {
@@ -109,11 +109,11 @@ module _ (T : Turn) where
 
   -- a mark moves on to c, a node of its piece: what stands before c is hot
   pub record Moved (S x : List ℕ) (c : ℕ) (post : List ℕ) : Type 0 where
-    pub stand : StandIn top q own M S x (push l (mark c post) st)
+    pub stand : Lists T own M S x (mark c post)
     pub piece : Seg (M .next) c (c ∷ post) (follow st)
 
   pub move-on : {S x w : List ℕ} {p : ℕ} (c : ℕ) (pre post : List ℕ) → p ∷ w ≡ pre ++ c ∷ post → Seg (M .next) p (p ∷ w) (follow st)
-      → StandIn top q own M S x (push l (mark p w) st) → Moved S (x ++ pre) c post
+      → Lists T own M S x (mark p w) → Moved S (x ++ pre) c post
   move-on {S} {x} {w} {p} c pre post e g s = record {
     stand = record {
       hot = record { more = s .hot .more ++ pre; begins = ap (λ y. y ++ pre) (s .hot .begins); alone = λ a z. absurd (c-some z); linked = seg-join (s .hot .linked) (rw m= at (two .1)) };
@@ -134,7 +134,7 @@ module _ (T : Turn) where
 
   -- a mark is taken off: its piece is hot
   pub take-off : {S x w : List ℕ} {p : ℕ} → (origin top st ≡ top → follow st ≢ 0) → Seg (M .next) p (p ∷ w) (follow st)
-      → StandIn top q own M S x (push l (mark p w) st) → StandIn top q own M S (x ++ p ∷ w) (push l (loose [] []) st)
+      → Lists T own M S x (mark p w) → Lists T own M S (x ++ p ∷ w) (loose [] [])
   take-off {S} {x} {w} {p} h g s = record {
     hot = record { more = s .hot .more ++ p ∷ w; begins = ap (λ y. y ++ p ∷ w) (s .hot .begins); alone = λ a z. absurd (h a z); linked = seg-join (s .hot .linked) g };
     settled = s .settled;
@@ -144,12 +144,12 @@ module _ (T : Turn) where
   -- tail moves to the mark p: the hot list is settled, and the piece is hot
   pub record Set (S x w : List ℕ) (p : ℕ) : Type 0 where
     pub tail-is : put (M .tail) (f .queue .0) p q ≡ p
-    pub pile : Pile top q (view q (upd M (Tail (f .queue)) p) (S ++ x)) fr l st false
-    pub stand : StandIn top q own (upd M (Tail (f .queue)) p) (S ++ x) (p ∷ w) (push l (loose [] []) st)
-    pub begins : Beginning (frontOf q M S (push l (mark p w) st)) (frontOf q (upd M (Tail (f .queue)) p) (S ++ x) (push l (loose [] []) st))
+    pub pile : Below T (upd M (Tail (f .queue)) p) (S ++ x) false
+    pub stand : Lists T own (upd M (Tail (f .queue)) p) (S ++ x) (p ∷ w) (loose [] [])
+    pub begins : Beginning (front T M S (mark p w)) (front T (upd M (Tail (f .queue)) p) (S ++ x) (loose [] []))
 
   pub settle : {S x w : List ℕ} {p : ℕ} → origin top st ≡ top → (follow st ≡ 0 → w ≡ []) → Seg (M .next) p (p ∷ w) (follow st)
-      → Pile top q (view q M S) fr l st false → StandIn top q own M S x (push l (mark p w) st) → Set S x w p
+      → Below T M S false → Lists T own M S x (mark p w) → Set S x w p
   settle {S} {x} {w} {p} h a g d s = record { tail-is = tail=; pile = pile; stand = stand; begins = begins }
     where
       M′ : Mem
@@ -158,7 +158,7 @@ module _ (T : Turn) where
       tail= : put (M .tail) (f .queue .0) p q ≡ p
       tail= = rw (T .here .queued) (put-same (M .tail) q p)
 
-      pile : Pile top q (view q (upd M (Tail (f .queue)) p) (S ++ x)) fr l st false
+      pile : Below T (upd M (Tail (f .queue)) p) (S ++ x) false
       pile = keep-all (view q M S) (view q M′ (S ++ x)) fr fr l (lists st ++ flight st) (omega (arith, T .below)) (λ j m. refl) (λ j m. refl) (λ j m. refl) (λ y m. refl)
           (λ j m n. the-same refl x refl (λ y r. refl)) (omega arith) (λ y. simp counts (omega arith)) (λ r. absurd (no r)) d
         where
@@ -172,7 +172,7 @@ module _ (T : Turn) where
       new : start (M′ .tail q) st ≡ p
       new = start-own (omega (arith, T .below)) pile h ∙ tail=
 
-      stand : StandIn top q own (upd M (Tail (f .queue)) p) (S ++ x) (p ∷ w) (push l (loose [] []) st)
+      stand : Lists T own (upd M (Tail (f .queue)) p) (S ++ x) (p ∷ w) (loose [] [])
       stand = record {
         hot = record { more = w; begins = ap (λ y. y ∷ w) (sym new); linked = rw new g; alone = λ r z. a z };
         settled = rw tail= (seg-join (s .settled) (rw old at (s .hot .linked)));
@@ -185,5 +185,5 @@ module _ (T : Turn) where
       longer : (leaving st ++ (S ++ M .tail q ∷ [])) ++ (s .hot .more ++ p ∷ []) ≡ leaving st ++ ((S ++ x) ++ M′ .tail q ∷ [])
       longer = rw (tail=, x-is) (simp append-assoc)
 
-      begins : Beginning (frontOf q M S (push l (mark p w) st)) (frontOf q (upd M (Tail (f .queue)) p) (S ++ x) (push l (loose [] []) st))
+      begins : Beginning (front T M S (mark p w)) (front T (upd M (Tail (f .queue)) p) (S ++ x) (loose [] []))
       begins = (without q (s .hot .more ++ p ∷ []), sym (without-append q (leaving st ++ (S ++ M .tail q ∷ [])) (s .hot .more ++ p ∷ [])) ∙ ap (without q) longer)

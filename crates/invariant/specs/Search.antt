@@ -14,10 +14,10 @@ use Rattle.table.specs.Table.{row}
 use Rattle.table.specs.declared.After.{After}
 use Rattle.chains.specs.Member.{Last, either, differ}
 use Rattle.chains.specs.Seg.{Walk, on, out, walk}
-use Rattle.invariant.specs.Ghost.{owner, push, lists, follow, origin, start}
-use Rattle.invariant.specs.Facts.{Hot, Aim, behind, before, NotPast, Walking, e13, e14, e15, e16, e17, e21, is-owner, Pile}
+use Rattle.invariant.specs.Ghost.{owner, lists, follow, origin, start}
+use Rattle.invariant.specs.Facts.{Aim, behind, before, NotPast, Walking, e13, e14, e15, e16, e17, e21, is-owner}
 use Rattle.invariant.specs.Below.{hot-start, start-own, start-owned, tail-in, origin-registered, Leads, leads, inner, inner-lists, inner-follow, shows}
-use Rattle.invariant.specs.Turn.{view, StandIn, frontOf, Turn, Ok, by-eq, Case, stay, to}
+use Rattle.invariant.specs.Turn.{Turn, Ok, by-eq, Case, stay, to, Below, Lists, front, HotBelow}
 
 -- the aim with another fact of the search
 aim-map : {top o s t p : ℕ} {P R : Type 0} → (p ≡ t → p ≢ 0 → P → R) → Aim top o s t p P → Aim top o s t p R
@@ -27,10 +27,10 @@ aim-map h (before a b c) = before a b (h a b c)
 module _ (T : Turn) where
   open Turn T using (top, q, own, fr, l, st, M, f)
 
-  module _ {S x y : List ℕ} (z : M .lq l ≡ q) (n : M .ln l ≡ f .node .0) (t : Hot top (M .next) (origin top st) (start (M .tail q) st) (follow st) y)
-      (d : Pile top q (view q M S) fr l st false) (s : StandIn top q own M S x (push l (owner (f .node .0) y) st)) where
+  module _ {S x y : List ℕ} (z : M .lq l ≡ q) (n : M .ln l ≡ f .node .0) (t : HotBelow T y)
+      (d : Below T M S false) (s : Lists T own M S x (owner (f .node .0) y)) where
     abbrev Then : After → Type 0
-    Then a = Ok T own (frontOf q M S (push l (owner (f .node .0) y) st)) [] M a
+    Then a = Ok T own (front T M S (owner (f .node .0) y)) [] M a
 
     -- the counts of what lies below
     once : (c : ℕ) → cnt c y + cnt c (lists st) ≤ 1
@@ -101,8 +101,8 @@ module _ (T : Turn) where
     at-end : M .next c ≡ follow st → Last c y → Onward c y more
     in-lists : 0 < cnt c (lists st) → Leads (M .next c) (inner st) → Onward c y more
 
-  module _ {S x y : List ℕ} (z : M .lq l ≡ q) (n : M .ln l ≡ f .node .0) (t : Hot top (M .next) (origin top st) (start (M .tail q) st) (follow st) y)
-      (d : Pile top q (view q M S) fr l st false) (s : StandIn top q own M S x (push l (owner (f .node .0) y) st)) where
+  module _ {S x y : List ℕ} (z : M .lq l ≡ q) (n : M .ln l ≡ f .node .0) (t : HotBelow T y)
+      (d : Below T M S false) (s : Lists T own M S x (owner (f .node .0) y)) where
     onward : (c : ℕ) → 0 < cnt c (y ++ lists st) → Onward c y (t .more)
     onward c h = by (either c y (lists st) h)
       where
@@ -161,7 +161,7 @@ module _ (T : Turn) where
       c : ℕ
       c = f .c .0
 
-      d′ : Pile top q (view q M S) fr l st false
+      d′ : Below T M S false
       d′ = rw e at d
 
       r : Onward c y (t .more)

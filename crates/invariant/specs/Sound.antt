@@ -10,13 +10,13 @@ use Rattle.words.specs.declared.Sizes.{Sizes}
 use Rattle.lists.specs.Count.{cnt, counts}
 use Rattle.lists.specs.Beginning.{without}
 use Rattle.state.specs.Step.{State}
-use Rattle.state.specs.Queues.{On, own}
+use Rattle.state.specs.Queues.{On}
 use Rattle.chains.specs.Member.{Last}
 use Rattle.chains.specs.Seg.{Seg, stop, link, seg-split, seg-join, seg-head, seg-rest, seg-nil}
 use Rattle.invariant.specs.Ghost.{Stack, floor, Listed}
-use Rattle.invariant.specs.Facts.{Pile, bottom, upon}
+use Rattle.invariant.specs.Facts.{bottom, upon}
 use Rattle.invariant.specs.Own.{own-in}
-use Rattle.invariant.specs.Turn.{view, StandIn, frontOf}
+use Rattle.invariant.specs.Turn.{StandIn, frontOf, ownIn, PileIn}
 
 pub record Sound (s : Sizes) (q : ℕ) (W : State) (front : List ℕ) : Type 0 where
   -- the ghost state
@@ -25,14 +25,14 @@ pub record Sound (s : Sizes) (q : ℕ) (W : State) (front : List ℕ) : Type 0 w
   pub stack : Stack
   pub done : Bool
   -- the operations on the queue, and the lists of its nodes
-  pub pile : Pile (s .levels) q (view q (W .mem) settled) (W .frames) (s .levels) stack done
-  pub stand : StandIn (s .levels) q (own (s .queues) (W .mem .uses) q) (W .mem) settled hot stack
+  pub pile : PileIn s q W settled (s .levels) stack done
+  pub stand : StandIn s q W settled hot stack
   -- the frames on the queue are those of the stack, registered levels have one, and one dequeue at most is among them
   pub listed : (j : ℕ) → On q (W .frames j) → Listed j stack
   pub registered : (j : ℕ) → W .mem .lq j ≡ q → On q (W .frames j)
   pub one : (i j : ℕ) → On q (W .frames i) → On q (W .frames j) → W .frames i .op ≡ 2 → W .frames j .op ≡ 2 → i ≡ j
   -- the queue's nodes are nodes of the table, and the queue is one of its queues
-  pub nodes : (y : ℕ) → own (s .queues) (W .mem .uses) q y ≡ 1 → (1 ≤ y) × (y ≤ s .nodes)
+  pub nodes : (y : ℕ) → ownIn s q W y ≡ 1 → (1 ≤ y) × (y ≤ s .nodes)
   pub low : 1 ≤ q
   pub high : q ≤ s .queues
   pub front-is : front ≡ frontOf q (W .mem) settled stack
@@ -42,7 +42,7 @@ pub record Chained (s : Sizes) (q : ℕ) (W : State) (front : List ℕ) : Type 0
   pub nodes : List ℕ
   pub linked : Seg (W .mem .next) (W .mem .head q) nodes 0
   pub ends : Last (W .mem .tail q) nodes
-  pub once : (x : ℕ) → cnt x nodes ≡ own (s .queues) (W .mem .uses) q x
+  pub once : (x : ℕ) → cnt x nodes ≡ ownIn s q W x
   pub front-is : front ≡ without q nodes
 
 -- ---- at rest
@@ -53,7 +53,7 @@ quiet s q W front d h = by (d .stack) (d .done) (d .pile) (d .stand) (d .front-i
     M : List ℕ
     M = d .settled
 
-    by : (st : Stack) (b : Bool) → Pile (s .levels) q (view q (W .mem) M) (W .frames) (s .levels) st b → StandIn (s .levels) q (own (s .queues) (W .mem .uses) q) (W .mem) M (d .hot) st
+    by : (st : Stack) (b : Bool) → PileIn s q W M (s .levels) st b → StandIn s q W M (d .hot) st
         → front ≡ frontOf q (W .mem) M st → Chained s q W front
     by _ _ bottom t e =
         let w : d .hot ≡ W .mem .tail q ∷ [] = t .hot .begins ∙ ap (λ y. W .mem .tail q ∷ y) (t .hot .alone refl refl) in

@@ -24,7 +24,7 @@ use Rattle.invariant.specs.Ghost.{Item, Stack, push, Listed}
 use Rattle.invariant.specs.Facts.{Regs, regs, View, Here, is-loose, d1, d2, d3, d4, d5, d6, d7, Works, Pile, upon}
 use Rattle.invariant.specs.Keep.{upon′}
 use Rattle.invariant.specs.Below.{listed-below, listed-lower}
-use Rattle.invariant.specs.Turn.{view, StandIn, frontOf, Turn, Ok, goes-on, has-ended}
+use Rattle.invariant.specs.Turn.{view, StandIn, frontOf, Turn, Ok, goes-on, has-ended, ownIn, HereIn, PileIn}
 use Rattle.invariant.specs.Enter.{e1-ok, e2-ok, e3-ok, e4-ok, e5-ok, e6-ok}
 use Rattle.invariant.specs.Append.{e7-ok, e8-ok, e9-ok, e10-ok, e11-ok, e12-ok}
 use Rattle.invariant.specs.Search.{e13-ok, e14-ok, e15-ok, e16-ok}
@@ -44,7 +44,7 @@ module _ (s : Sizes) (q l : ℕ) (W : State) (st : Stack) (low : l < s .levels) 
   turn = record {
     top = s .levels;
     q = q;
-    own = own (s .queues) (W .mem .uses) q;
+    own = ownIn s q W;
     fr = W .frames;
     l = l;
     st = st;
@@ -63,16 +63,16 @@ module _ (s : Sizes) (q l : ℕ) (W : State) (st : Stack) (low : l < s .levels) 
   rowAt p = row p (counted (W .frames l)) (level l) (level (s .levels))
 
   -- the node that D7 frees is the user's, and the queue's up to then
-  one-less : {S x : List ℕ} {i : Item} {b b′ : Bool} → Here (s .levels) q (view q (W .mem) S) l (regs (W .frames l)) D7 i st b b′
-      → StandIn (s .levels) q (own (s .queues) (W .mem .uses) q) (W .mem) S x (push l i st)
-      → (y : ℕ) → own (s .queues) (W .mem .uses) q y ≡ cnt y (W .frames l .c .0 ∷ []) + own (s .queues) (put (W .mem .uses) (W .frames l .c .0) 0) q y
+  one-less : {S x : List ℕ} {i : Item} {b b′ : Bool} → HereIn s q W S l (W .frames l) D7 i st b b′
+      → StandIn s q W S x (push l i st)
+      → (y : ℕ) → ownIn s q W y ≡ cnt y (W .frames l .c .0 ∷ []) + own (s .queues) (put (W .mem .uses) (W .frames l .c .0) 0) q y
   one-less (is-loose z (d7 o e)) t =
       let c = W .frames l .c .0 in
-      let mine : own (s .queues) (W .mem .uses) q c ≡ 1 = omega (arith, simp counts at (t .all c), own-le (s .queues) (W .mem .uses) q c) in
+      let mine : ownIn s q W c ≡ 1 = omega (arith, simp counts at (t .all c), own-le (s .queues) (W .mem .uses) q c) in
       own-freed (s .queues) (W .mem .uses) q c q≥ (own-user (s .queues) (W .mem .uses) q c mine e) mine
 
-  kept-at : (p : Point) → pointOf (W .frames l .point) ≡ p → (S x : List ℕ) (i : Item) (b b′ : Bool) → Here (s .levels) q (view q (W .mem) S) l (regs (counted (W .frames l))) p i st b b′
-      → Pile (s .levels) q (view q (W .mem) S) (W .frames) l st b → StandIn (s .levels) q (own (s .queues) (W .mem .uses) q) (W .mem) S x (push l i st)
+  kept-at : (p : Point) → pointOf (W .frames l .point) ≡ p → (S x : List ℕ) (i : Item) (b b′ : Bool) → HereIn s q W S l (counted (W .frames l)) p i st b b′
+      → PileIn s q W S l st b → StandIn s q W S x (push l i st)
       → Ok turn (own (s .queues) (memAfter (W .mem) (rowAt p) .uses) q) (frontOf q (W .mem) S (push l i st)) (outOf (rowAt p)) (memAfter (W .mem) (rowAt p)) (then (W .mem) (rowAt p) (counted (W .frames l)))
   unfolding row counted
   kept-at E1 = e1-ok turn
@@ -139,7 +139,7 @@ registered-after (store {w = Use i} b m) h j e = h j e
 registered-after (free a b c) h j e = h j e
 
 -- the queue's nodes were its nodes before
-owned-before : {s : Sizes} {q : ℕ} {W : State} {r : Row} → 1 ≤ q → Within s q W r → (y : ℕ) → own (s .queues) (memAfter (W .mem) r .uses) q y ≡ 1 → own (s .queues) (W .mem .uses) q y ≡ 1
+owned-before : {s : Sizes} {q : ℕ} {W : State} {r : Row} → 1 ≤ q → Within s q W r → (y : ℕ) → own (s .queues) (memAfter (W .mem) r .uses) q y ≡ 1 → ownIn s q W y ≡ 1
 owned-before p (load b) y e = e
 owned-before p (store {w = LevelNode i} b m) y e = e
 owned-before p (store {w = LevelQueue i} b m) y e = e
@@ -301,7 +301,7 @@ sound-step s q W front d l low o idle = by (d .stack) (d .done) (on-top l idle (
     r : Row
     r = rowOf (s .levels) l (W .frames l)
 
-    by : (st : Stack) (b : Bool) → TopOf (s .levels) q (view q (W .mem) S) (W .frames) l st b → StandIn (s .levels) q (own (s .queues) (W .mem .uses) q) (W .mem) S (d .hot) st
+    by : (st : Stack) (b : Bool) → TopOf (s .levels) q (view q (W .mem) S) (W .frames) l st b → StandIn s q W S (d .hot) st
         → ((j : ℕ) → On q (W .frames j) → Listed j st) → front ≡ frontOf q (W .mem) S st → Stepping s q W l front
     by _ _ (top-is {i = i} {st = st} works h p) t listed e =
         record { op = works .known; point = point; within = inside; front′ = k .front′; sound = k .sound; begins = begins-from e (k .begins); linked = linked }

@@ -6,6 +6,7 @@ use mathlib.Core.Bool.{Bool, true, false, cond}
 use mathlib.Core.List.{List, [], _∷_, _++_, append-nil}
 use native.Mathlib.Omega.{arith}
 use lib.Dec.{eqb}
+use Rattle.words.specs.declared.Sizes.{Sizes}
 use Rattle.words.specs.declared.Frame.{Frame}
 use Rattle.words.specs.declared.Node.{Node}
 use Rattle.words.specs.Layout.{level}
@@ -13,8 +14,8 @@ use Rattle.lists.specs.Count.{Same, same, apart, same?, cnt, cnt-append, counts
 use Rattle.lists.specs.Beginning.{Beginning, without, begins-same}
 use Rattle.words.specs.declared.Word.the-variants.{LevelNode, LevelQueue, Next}
 use Rattle.state.specs.Mem.{Mem, put-other, upd}
-use Rattle.state.specs.Step.{memAfter, then}
-use Rattle.state.specs.Queues.{outOf}
+use Rattle.state.specs.Step.{State, memAfter, then}
+use Rattle.state.specs.Queues.{own, outOf}
 use Rattle.table.specs.Points.{Point, numberOf, pointOf}
 use Rattle.table.specs.Laws.{point-is}
 use Rattle.table.specs.Frames.{ifEq}
@@ -36,12 +37,24 @@ pub record Stand (top : ℕ) (own next : ℕ → ℕ) (head tail : ℕ) (S x : L
   pub settled : Seg next head S tail
   pub all : (y : ℕ) → cnt y S + cnt y x + cnt y (lists st) + cnt y (flight st) ≡ own y
 
-abbrev pub StandIn : ℕ → ℕ → (ℕ → ℕ) → Mem → List ℕ → List ℕ → Stack → Type 0
-StandIn top q own M S x st = Stand top own (M .next) (M .head q) (M .tail q) S x st
-
 -- the frozen front of the queue: what is going out, and the settled nodes with tail, the sentinel left out
 abbrev pub frontOf : ℕ → Mem → List ℕ → Stack → List ℕ
 frontOf q M S st = without q (leaving st ++ (S ++ M .tail q ∷ []))
+
+-- the same of queue q in a state, of the sizes s
+abbrev pub ownIn : Sizes → ℕ → State → ℕ → ℕ
+ownIn s q W = own (s .queues) (W .mem .uses) q
+
+abbrev pub HereIn : Sizes → ℕ → State → List ℕ → ℕ → Frame → Point → Item → Stack → Bool → Bool → Type 0
+HereIn s q W S l f p i st b b′ = Here (s .levels) q (view q (W .mem) S) l (regs f) p i st b b′
+
+abbrev pub PileIn : Sizes → ℕ → State → List ℕ → ℕ → Stack → Bool → Type 0
+PileIn s q W S n st b = Pile (s .levels) q (view q (W .mem) S) (W .frames) n st b
+
+abbrev pub StandIn : Sizes → ℕ → State → List ℕ → List ℕ → Stack → Type 0
+StandIn s q W S x st = Stand (s .levels) (ownIn s q W) (W .mem .next) (W .mem .head q) (W .mem .tail q) S x st
+
+-- ---- a turn
 
 pub record Turn : Type 0 where
   pub top : ℕ
@@ -63,55 +76,76 @@ pub record Turn : Type 0 where
 module _ (T : Turn) where
   open Turn T using (top, q, fr, l, st, M, f)
 
-  -- the step leaves memory M′ and what follows; own′ counts the queue's nodes then, front was frozen before, and outs are handed out
-  pub data Ok (own′ : ℕ → ℕ) (front outs : List ℕ) (M′ : Mem) : After → Type 0 where
+  -- in a memory, with the settled nodes S: the operation itself, what lies below it, the lists of nodes, the front
+  abbrev pub At : Mem → List ℕ → Frame → Point → Item → Bool → Bool → Type 0
+  At M S f p i b b′ = Here top q (view q M S) l (regs f) p i st b b′
+
+  abbrev pub Below : Mem → List ℕ → Bool → Type 0
+  Below M S b = Pile top q (view q M S) fr l st b
+
+  abbrev pub Lists : (ℕ → ℕ) → Mem → List ℕ → List ℕ → Item → Type 0
+  Lists own M S x i = Stand top own (M .next) (M .head q) (M .tail q) S x (push l i st)
+
+  -- and the lists when the operation has ended
+  abbrev pub Left : (ℕ → ℕ) → Mem → List ℕ → List ℕ → Type 0
+  Left own M S x = Stand top own (M .next) (M .head q) (M .tail q) S x st
+
+  abbrev pub front : Mem → List ℕ → Item → List ℕ
+  front M S i = frontOf q M S (push l i st)
+
+  -- the hot list that lies below an operation that is not linked in
+  abbrev pub HotBelow : List ℕ → Type 0
+  HotBelow y = Hot top (M .next) (origin top st) (start (M .tail q) st) (follow st) y
+
+  -- the step leaves memory M′ and what follows; own′ counts the queue's nodes then, frozen was the front before, and outs are handed out
+  pub data Ok (own′ : ℕ → ℕ) (frozen outs : List ℕ) (M′ : Mem) : After → Type 0 where
     goes-on : {f′ : Frame} {p : Point} {S x : List ℕ} {i : Item} {b b′ : Bool}
         → pointOf (f′ .point) ≡ p → f′ .op ≡ f .op → f′ .queue .0 ≡ f .queue .0
-        → Here top q (view q M′ S) l (regs f′) p i st b b′ → Pile top q (view q M′ S) fr l st b → StandIn top q own′ M′ S x (push l i st)
-        → Beginning front (outs ++ frontOf q M′ S (push l i st)) → Ok own′ front outs M′ (Go f′)
+        → At M′ S f′ p i b b′ → Below M′ S b → Lists own′ M′ S x i
+        → Beginning frozen (outs ++ front M′ S i) → Ok own′ frozen outs M′ (Go f′)
     has-ended : {n : Node} {S x : List ℕ} {b : Bool}
-        → M′ .lq l ≢ q → Pile top q (view q M′ S) fr l st b → StandIn top q own′ M′ S x st
-        → Beginning front (outs ++ frontOf q M′ S st) → Ok own′ front outs M′ (Done n)
+        → M′ .lq l ≢ q → Below M′ S b → Left own′ M′ S x
+        → Beginning frozen (outs ++ frontOf q M′ S st) → Ok own′ frozen outs M′ (Done n)
 
-  pub by-eq : {own′ : ℕ → ℕ} {front outs : List ℕ} {M′ : Mem} {a b : ℕ} {x y : After} → (a ≡ b → Ok own′ front outs M′ x) → (a ≢ b → Ok own′ front outs M′ y) → Ok own′ front outs M′ (ifEq a b x y)
+  pub by-eq : {own′ : ℕ → ℕ} {frozen outs : List ℕ} {M′ : Mem} {a b : ℕ} {x y : After} → (a ≡ b → Ok own′ frozen outs M′ x) → (a ≢ b → Ok own′ frozen outs M′ y) → Ok own′ frozen outs M′ (ifEq a b x y)
   unfolding ifEq
-  by-eq {own′} {front} {outs} {M′} {a} {b} {x} {y} h k = go (eqb a b) (same? a b)
+  by-eq {own′} {frozen} {outs} {M′} {a} {b} {x} {y} h k = go (eqb a b) (same? a b)
     where
-      go : (t : Bool) → Same a b t → Ok own′ front outs M′ (cond t x y)
+      go : (t : Bool) → Same a b t → Ok own′ frozen outs M′ (cond t x y)
       go true (same e) = h e
       go false (apart e) = k e
 
   -- a step at point p: from each ghost state that fits the frame to one that fits what the step leaves
   abbrev pub Case : Point → Type 0
-  Case p = pointOf (f .point) ≡ p → (S x : List ℕ) (i : Item) (b b′ : Bool) → Here top q (view q M S) l (regs f) p i st b b′ → Pile top q (view q M S) fr l st b → StandIn top q (T .own) M S x (push l i st)
-      → Ok (T .own) (frontOf q M S (push l i st)) (outOf (row p f (level l) (level top))) (memAfter M (row p f (level l) (level top))) (then M (row p f (level l) (level top)) f)
+  Case p = pointOf (f .point) ≡ p → (S x : List ℕ) (i : Item) (b b′ : Bool) → At M S f p i b b′ → Below M S b → Lists (T .own) M S x i
+      → Ok (T .own) (front M S i) (outOf (row p f (level l) (level top))) (memAfter M (row p f (level l) (level top))) (then M (row p f (level l) (level top)) f)
 
   -- to point p, and the front stands still
   pub stay : {f′ : Frame} {S x : List ℕ} {b b′ : Bool} {own′ : ℕ → ℕ} {M′ : Mem} (p : Point) (i : Item) → pointOf (f′ .point) ≡ p → f′ .op ≡ f .op → f′ .queue .0 ≡ f .queue .0
-      → Here top q (view q M′ S) l (regs f′) p i st b b′ → Pile top q (view q M′ S) fr l st b → StandIn top q own′ M′ S x (push l i st)
-      → Ok own′ (frontOf q M′ S (push l i st)) [] M′ (Go f′)
+      → At M′ S f′ p i b b′ → Below M′ S b → Lists own′ M′ S x i
+      → Ok own′ (front M′ S i) [] M′ (Go f′)
   stay p i a b c d e s = goes-on a b c d e s (begins-same _)
 
   pub to : {f′ : Frame} {S x : List ℕ} {b b′ : Bool} {own′ : ℕ → ℕ} {M′ : Mem} (p : Point) (i : Item) → f′ .point ≡ numberOf p → f′ .op ≡ f .op → f′ .queue .0 ≡ f .queue .0
-      → Here top q (view q M′ S) l (regs f′) p i st b b′ → Pile top q (view q M′ S) fr l st b → StandIn top q own′ M′ S x (push l i st)
-      → Ok own′ (frontOf q M′ S (push l i st)) [] M′ (Go f′)
+      → At M′ S f′ p i b b′ → Below M′ S b → Lists own′ M′ S x i
+      → Ok own′ (front M′ S i) [] M′ (Go f′)
   to {f′} p i a b c d e s = stay p i (point-is p (f′ .point) a) b c d e s
 
   -- what lies below stands still: one law for each kind of store
-  module _ {S : List ℕ} {b : Bool} (d : Pile top q (view q M S) fr l st b) where
+  module _ {S : List ℕ} {b : Bool} (d : Below M S b) where
     same-below : (M′ : Mem) → ((j : ℕ) → j < l → M′ .ln j ≡ M .ln j) → ((j : ℕ) → j < l → M′ .lq j ≡ M .lq j)
         → ((y : ℕ) → 0 < cnt y S + cnt y (lists st) + cnt y (flight st) → M′ .next y ≡ M .next y) → M′ .head q ≡ M .head q → M′ .tail q ≡ M .tail q
-        → Pile top q (view q M′ S) fr l st b
+        → Below M′ S b
     same-below M′ ln= lq= next= head= tail= =
         keep-all (view q M S) (view q M′ S) fr fr l (lists st ++ flight st) (omega (arith, T .below)) (λ j m. refl) ln= lq= (λ y (m : 0 < cnt y (lists st ++ flight st)). next= y (omega (arith, cnt-append y (lists st) (flight st))))
         (λ j m n. the-same head= [] (sym (append-nil S)) (λ y (r : 0 < cnt y S). next= y (omega arith))) (omega arith) (λ y. simp counts (omega arith)) (λ r. tail=) d
 
-    pub below-ln : (v : ℕ) → Pile top q (view q (upd M (LevelNode (level l)) v) S) fr l st b
+    pub below-ln : (v : ℕ) → Below (upd M (LevelNode (level l)) v) S b
     below-ln v = same-below (upd M (LevelNode (level l)) v) (λ j m. put-other (M .ln) l v j (omega arith)) (λ j m. refl) (λ y m. refl) refl refl
 
-    pub below-lq : (v : ℕ) → Pile top q (view q (upd M (LevelQueue (level l)) v) S) fr l st b
+    pub below-lq : (v : ℕ) → Below (upd M (LevelQueue (level l)) v) S b
     below-lq v = same-below (upd M (LevelQueue (level l)) v) (λ j m. refl) (λ j m. put-other (M .lq) l v j (omega arith)) (λ y m. refl) refl refl
 
-    pub below-next : (a v : ℕ) → cnt a S + cnt a (lists st) + cnt a (flight st) ≡ 0 → Pile top q (view q (upd M (Next (record { 0 = a })) v) S) fr l st b
+    pub below-next : (a v : ℕ) → cnt a S + cnt a (lists st) + cnt a (flight st) ≡ 0 → Below (upd M (Next (record { 0 = a })) v) S b
     below-next a v z = same-below (upd M (Next (record { 0 = a })) v) (λ j m. refl) (λ j m. refl)
         (λ y (m : 0 < cnt y S + cnt y (lists st) + cnt y (flight st)). put-other (M .next) a v y (λ e. let w : cnt y S + cnt y (lists st) + cnt y (flight st) ≡ 0 = rw e z in omega arith)) refl refl

@@ -11,7 +11,7 @@ use Rattle.words.specs.Layout.{level}
 use Rattle.words.specs.Laws.{Bound}
 use Rattle.lists.specs.Count.{cnt, counts}
 use Rattle.state.specs.Step.{State}
-use Rattle.state.specs.Queues.{On, own, Within, load, store, free}
+use Rattle.state.specs.Queues.{On, Within, load, store, free}
 use Rattle.table.specs.Points.{Point, E1, E2, E3, E4, E5, E6, E7, E8, E9, E10, E11, E12, E13, E14, E15, E16, E17, E18, E19, E20, E21, E22, E23, E24, E25, E26, E27, E28, E29, D1, D2, D3, D4, D5, D6, D7, Unknown}
 use Rattle.table.specs.Table.{row, loads, stores}
 use Rattle.table.specs.declared.After.{After}
@@ -21,11 +21,11 @@ use Rattle.words.specs.declared.Word.{Word}
 use Rattle.words.specs.declared.Level.{Level}
 use Rattle.chains.specs.Member.{last-in}
 use Rattle.invariant.specs.Ghost.{Item, Stack, push, lists, flight, follow, origin, start}
-use Rattle.invariant.specs.Facts.{Regs, regs, View, Hot, Loose, Unlinked, Linked, Here, is-loose, is-owner, is-mark, Pile, d3, d4, d6, d7, e3, e4, e6, e8, e9, e13, e14, e16, e17, e18, e21, e22, e10, e19, e20, e23, e24}
+use Rattle.invariant.specs.Facts.{Regs, View, Hot, Loose, Unlinked, Linked, Here, is-loose, is-owner, is-mark, Pile, d3, d4, d6, d7, e3, e4, e6, e8, e9, e13, e14, e16, e17, e18, e21, e22, e10, e19, e20, e23, e24}
 use Rattle.invariant.specs.Own.{own-le, own-user}
 use Rattle.invariant.specs.Keep.{aim-first}
 use Rattle.invariant.specs.Below.{hot-start, nobody}
-use Rattle.invariant.specs.Turn.{view, StandIn}
+use Rattle.invariant.specs.Turn.{StandIn, ownIn, HereIn, PileIn}
 
 -- ---- no operation stands at an unknown point
 
@@ -51,21 +51,21 @@ tail-hot d h o e = rw (e ∙ sym (nobody d h .begins)) (hot-start o)
 -- ---- the words of each row
 
 module _ (s : Sizes) (q l : ℕ) (W : State) (st : Stack) (f : Frame) (low : l < s .levels) (q≥ : 1 ≤ q) (q≤ : q ≤ s .queues) (fq : f .queue .0 ≡ q) (on : On q (W .frames l))
-    (registered : (j : ℕ) → W .mem .lq j ≡ q → On q (W .frames j)) (range : (y : ℕ) → own (s .queues) (W .mem .uses) q y ≡ 1 → (1 ≤ y) × (y ≤ s .nodes)) where
+    (registered : (j : ℕ) → W .mem .lq j ≡ q → On q (W .frames j)) (range : (y : ℕ) → ownIn s q W y ≡ 1 → (1 ≤ y) × (y ≤ s .nodes)) where
   queue-in : (1 ≤ f .queue .0) × (f .queue .0 ≤ s .queues)
   queue-in = rw fq (omega arith)
 
   -- a node that stands in some list is the queue's
-  ours : {S x : List ℕ} {i : Item} → StandIn (s .levels) q (own (s .queues) (W .mem .uses) q) (W .mem) S x (push l i st)
-      → (y : ℕ) → 0 < cnt y S + cnt y x + cnt y (lists (push l i st)) + cnt y (flight (push l i st)) → own (s .queues) (W .mem .uses) q y ≡ 1
+  ours : {S x : List ℕ} {i : Item} → StandIn s q W S x (push l i st)
+      → (y : ℕ) → 0 < cnt y S + cnt y x + cnt y (lists (push l i st)) + cnt y (flight (push l i st)) → ownIn s q W y ≡ 1
   ours t y h = omega (arith, t .all y, own-le (s .queues) (W .mem .uses) q y)
 
-  reads : {S x : List ℕ} {i : Item} {after : ℕ → After} → StandIn (s .levels) q (own (s .queues) (W .mem .uses) q) (W .mem) S x (push l i st) → (y : Node)
+  reads : {S x : List ℕ} {i : Item} {after : ℕ → After} → StandIn s q W S x (push l i st) → (y : Node)
       → 0 < cnt (y .0) S + cnt (y .0) x + cnt (y .0) (lists (push l i st)) + cnt (y .0) (flight (push l i st)) → Within s q W (loads (Next y) after)
   unfolding Bound
   reads t y h = load (range (y .0) (ours t (y .0) h))
 
-  links : {S x : List ℕ} {i : Item} {v : ℕ} {after : After} → StandIn (s .levels) q (own (s .queues) (W .mem .uses) q) (W .mem) S x (push l i st) → (y : Node)
+  links : {S x : List ℕ} {i : Item} {v : ℕ} {after : After} → StandIn s q W S x (push l i st) → (y : Node)
       → 0 < cnt (y .0) S + cnt (y .0) x + cnt (y .0) (lists (push l i st)) + cnt (y .0) (flight (push l i st)) → Within s q W (stores (Next y) v after)
   unfolding Bound
   links t y h = store (range (y .0) (ours t (y .0) h)) (ours t (y .0) h)
@@ -77,8 +77,8 @@ module _ (s : Sizes) (q l : ℕ) (W : State) (st : Stack) (f : Frame) (low : l <
   unfolding Bound
   registers {v} j a b c = store {w = LevelQueue j} {v = v} a (b, c)
 
-  pub within : (p : Point) {S x : List ℕ} {i : Item} {b b′ : Bool} → Here (s .levels) q (view q (W .mem) S) l (regs f) p i st b b′ → Pile (s .levels) q (view q (W .mem) S) (W .frames) l st b
-      → StandIn (s .levels) q (own (s .queues) (W .mem .uses) q) (W .mem) S x (push l i st) → Within s q W (row p f (level l) (level (s .levels)))
+  pub within : (p : Point) {S x : List ℕ} {i : Item} {b b′ : Bool} → HereIn s q W S l f p i st b b′ → PileIn s q W S l st b
+      → StandIn s q W S x (push l i st) → Within s q W (row p f (level l) (level (s .levels)))
   unfolding row Bound
   within E1 h d t = store low on
   within E2 h d t = registers (level l) low on (inl fq)
