@@ -1,4 +1,5 @@
--- A stretch of a chain: from a pointer the next words lead through a list of nodes to another pointer. How it is walked, cut, turned and closed.
+-- A stretch of a chain: from a pointer the next words lead through a list of nodes to another pointer. How it is walked, cut,
+-- turned and closed.
 use Prim.Native.Nat.{ℕ, _+_, _≤_, _<_}
 use mathlib.Core.Path.{_≡_, refl, sym, ap, _∙_}
 use mathlib.Core.List.{List, [], _∷_, _++_}
@@ -15,20 +16,24 @@ pub data Seg (f : ℕ → ℕ) : ℕ → List ℕ → ℕ → Type 0 where
   link : {s x t : ℕ} {xs : List ℕ} → s ≡ x → Seg f (f x) xs t → Seg f s (x ∷ xs) t
 
 -- only the words of its own nodes matter
-pub seg-same : {f g : ℕ → ℕ} {s : ℕ} {xs : List ℕ} {t : ℕ} → ((x : ℕ) → 0 < cnt x xs → g x ≡ f x) → Seg f s xs t → Seg g s xs t
+pub seg-same : {f g : ℕ → ℕ} {s : ℕ} {xs : List ℕ} {t : ℕ} → ((x : ℕ) → 0 < cnt x xs → g x ≡ f x) → Seg f s xs t
+    → Seg g s xs t
 seg-same h (stop e) = stop e
-seg-same h (link {x = x} {xs = xs} e r) = link e (rw (sym (h x (cnt-self x xs))) at (seg-same (λ y (m : 0 < cnt y xs). h y (simp counts (omega arith))) r))
+seg-same h (link {x = x} {xs = xs} e r) =
+    link e (rw (sym (h x (cnt-self x xs))) at (seg-same (λ y (m : 0 < cnt y xs). h y (simp counts (omega arith))) r))
 
 -- a store at another node
 pub seg-put : {f : ℕ → ℕ} (a v : ℕ) {s : ℕ} {xs : List ℕ} {t : ℕ} → cnt a xs ≡ 0 → Seg f s xs t → Seg (put f a v) s xs t
 seg-put {f} a v {xs = xs} z e = seg-same (λ x m. put-other f a v x (λ q. (let w : cnt x xs ≡ 0 = rw q z in omega arith))) e
 
 -- two parts
-pub seg-split : {f : ℕ → ℕ} {s : ℕ} (xs : List ℕ) {ys : List ℕ} {t : ℕ} → Seg f s (xs ++ ys) t → (m : ℕ) × Seg f s xs m × Seg f m ys t
+pub seg-split : {f : ℕ → ℕ} {s : ℕ} (xs : List ℕ) {ys : List ℕ} {t : ℕ} → Seg f s (xs ++ ys) t
+    → (m : ℕ) × Seg f s xs m × Seg f m ys t
 seg-split {s = s} [] e = (s, stop refl, e)
 seg-split (x ∷ xs) (link p e) = let r = seg-split xs e in (r .0, link p (r .1), r .2)
 
-pub seg-join : {f : ℕ → ℕ} {s : ℕ} {xs : List ℕ} {m : ℕ} {ys : List ℕ} {t : ℕ} → Seg f s xs m → Seg f m ys t → Seg f s (xs ++ ys) t
+pub seg-join : {f : ℕ → ℕ} {s : ℕ} {xs : List ℕ} {m : ℕ} {ys : List ℕ} {t : ℕ} → Seg f s xs m → Seg f m ys t
+    → Seg f s (xs ++ ys) t
 seg-join (stop p) e = rw p e
 seg-join (link p d) e = link p (seg-join d e)
 
@@ -63,14 +68,19 @@ walk {f} {x = x} {t = t} {ws = []} c (link p g) h = by (eqb c x) (same? c x) (rw
     by false (apart e) k = absurd (omega (arith, cnt-nil c))
 walk {f} {x = x} {t = t} {ws = y ∷ ws} c (link p g) h = by (eqb c x) (same? c x) (rw cnt-cons at h) (walk c g)
   where
-    by : (b : Bool) → Same c x b → 0 < hit b + cnt c (y ∷ ws) → (0 < cnt c (y ∷ ws) → Walk f c t (y ∷ ws) ws) → Walk f c t (x ∷ y ∷ ws) (y ∷ ws)
+    by : (b : Bool) → Same c x b → 0 < hit b + cnt c (y ∷ ws) → (0 < cnt c (y ∷ ws) → Walk f c t (y ∷ ws) ws)
+        → Walk f c t (x ∷ y ∷ ws) (y ∷ ws)
     by true (same e) k ih = walk-first (ap f e) e g
     by false (apart e) k ih = walk-later (ih (omega arith))
 
 -- the link of the last is turned
-pub seg-turn : {f : ℕ → ℕ} {s t : ℕ} (pre : List ℕ) (c v : ℕ) → cnt c pre ≡ 0 → Seg f s (pre ++ c ∷ []) t → Seg (put f c v) s (pre ++ c ∷ []) v
-seg-turn {f} pre c v z g = let r = seg-split pre g in seg-join (seg-put c v z (r .1)) (link (seg-head (r .2)) (stop (put-same f c v)))
+pub seg-turn : {f : ℕ → ℕ} {s t : ℕ} (pre : List ℕ) (c v : ℕ) → cnt c pre ≡ 0 → Seg f s (pre ++ c ∷ []) t
+    → Seg (put f c v) s (pre ++ c ∷ []) v
+seg-turn {f} pre c v z g = let r = seg-split pre g in
+    seg-join (seg-put c v z (r .1)) (link (seg-head (r .2)) (stop (put-same f c v)))
 
 -- the same where c is said to be the last of xs, in which it stands once
-pub seg-turn-last : {f : ℕ → ℕ} {s t : ℕ} {xs : List ℕ} (c v : ℕ) → Last c xs → cnt c xs ≤ 1 → Seg f s xs t → Seg (put f c v) s xs v
-seg-turn-last c v l o g = rw (l .1) (seg-turn (l .0) c v (let h = simp counts at (rw (l .1) at o) in omega arith) (rw (l .1) at g))
+pub seg-turn-last : {f : ℕ → ℕ} {s t : ℕ} {xs : List ℕ} (c v : ℕ) → Last c xs → cnt c xs ≤ 1 → Seg f s xs t
+    → Seg (put f c v) s xs v
+seg-turn-last c v l o g =
+    rw (l .1) (seg-turn (l .0) c v (let h = simp counts at (rw (l .1) at o) in omega arith) (rw (l .1) at g))

@@ -21,7 +21,8 @@ record Bare (next : ℕ → ℕ) (tail : ℕ) (x : List ℕ) : Type 0 where
   is : x ≡ tail ∷ []
   last : next tail ≡ 0
 
-bare : {top o s t tail : ℕ} {next : ℕ → ℕ} {x : List ℕ} → o ≡ top → t ≡ 0 → s ≡ tail → Hot top next o s t x → Bare next tail x
+bare : {top o s t tail : ℕ} {next : ℕ → ℕ} {x : List ℕ} → o ≡ top → t ≡ 0 → s ≡ tail → Hot top next o s t x
+    → Bare next tail x
 bare {s = s} {tail = tail} {next = next} {x = x} a b c h =
     let e : x ≡ tail ∷ [] = h .begins ∙ ap (λ w. s ∷ w) (h .alone a b) ∙ ap (λ w. w ∷ []) c in
     record { is = e; last = seg-nil (seg-rest (rw e at (h .linked))) ∙ b }
@@ -31,14 +32,16 @@ module _ (T : Turn) where
 
   pub e7-ok : Case T E7
   unfolding row
-  e7-ok at S x _ b _ (is-owner z n t (e7 h)) d s = to T E8 (owner (f .node .0) _) refl refl refl (is-owner z n t (e8 h (ap (M .tail) (T .here .queued)))) d s
+  e7-ok at S x _ b _ (is-owner z n t (e7 h)) d s =
+      to T E8 (owner (f .node .0) _) refl refl refl (is-owner z n t (e8 h (ap (M .tail) (T .here .queued)))) d s
 
   -- tail's link ends, so this walk takes no step
   pub e8-ok : Case T E8
   unfolding row walkTo
   e8-ok at S x _ b _ (is-owner z n t (e8 h e)) d s =
       let r = nobody d h in let w = bare (r .own) (r .ends) (r .begins) t in
-      by-eq T (λ i. to T E9 (owner (f .node .0) _) refl refl refl (is-owner z n t (e9 h e)) d s) (λ i. absurd (i (rw e (w .last))))
+      by-eq T (λ i. to T E9 (owner (f .node .0) _) refl refl refl (is-owner z n t (e9 h e)) d s)
+      (λ i. absurd (i (rw e (w .last))))
 
   pub e9-ok : Case T E9
   unfolding row
@@ -46,18 +49,22 @@ module _ (T : Turn) where
       let r = nobody d h in let w = bare (r .own) (r .ends) (r .begins) t in
       let k = hang T (f .node .0) (f .c .0) [] [] (w .is ∙ ap (λ c. c ∷ []) (sym e)) t d s in
       to T E10 (mark (f .node .0) (s .hot .more ++ [])) refl refl refl
-      (is-mark z n (e10 (r .own) (r .ends) (rw (r .ends, append-nil (s .hot .more)) (k .ends)) (cnt-self (f .node .0) (s .hot .more ++ [])))) (rw (r .unsettled) at (k .pile)) (k .stand)
+      (is-mark z n (e10 (r .own) (r .ends) (rw (r .ends, append-nil (s .hot .more)) (k .ends))
+      (cnt-self (f .node .0) (s .hot .more ++ [])))) (rw (r .unsettled) at (k .pile)) (k .stand)
 
   pub e10-ok : Case T E10
   unfolding row
-  e10-ok at S x _ b _ (is-mark {s = p} {w = w} z n (e10 a e g h)) d s = along T 11 g e (omega (arith, simp counts at (s .all 0), T .none)) h
-      (λ k. to T E11 (mark p w) refl refl refl (is-mark z n (e11 a e g k)) d s) (λ k. stay T E10 (mark p w) at refl refl (is-mark z n (e10 a e g k)) d s)
+  e10-ok at S x _ b _ (is-mark {s = p} {w = w} z n (e10 a e g h)) d s =
+      along T 11 g e (omega (arith, simp counts at (s .all 0), T .none)) h
+      (λ k. to T E11 (mark p w) refl refl refl (is-mark z n (e11 a e g k)) d s)
+      (λ k. stay T E10 (mark p w) at refl refl (is-mark z n (e10 a e g k)) d s)
 
   pub e11-ok : Case T E11
   unfolding row
   e11-ok at S x _ b _ (is-mark z n (e11 a e g h)) d s =
       let k = move-on T (f .c .0) (h .0) [] (h .1) g s in
-      to T E12 (mark (f .c .0) []) refl refl refl (is-mark z (put-same (M .ln) l (f .c .0)) (e12 a e (k .piece) refl refl)) (below-ln T d (f .c .0)) (k .stand)
+      to T E12 (mark (f .c .0) []) refl refl refl (is-mark z (put-same (M .ln) l (f .c .0)) (e12 a e (k .piece) refl refl))
+      (below-ln T d (f .c .0)) (k .stand)
 
   pub e12-ok : Case T E12
   unfolding row

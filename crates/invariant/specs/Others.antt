@@ -51,11 +51,19 @@ module _ (s : Sizes) (q : ℕ) (U W : State) (a : Apart s q U W) where
     hot = d .hot;
     stack = d .stack;
     done = d .done;
-    pile = keep (view q (U .mem) (d .settled)) (view q (W .mem) (d .settled)) (U .frames) (W .frames) (s .levels) (lists (d .stack) ++ flight (d .stack)) (omega arith)
+    pile = keep (view q (U .mem) (d .settled)) (view q (W .mem) (d .settled)) (U .frames) (W .frames) (s .levels)
+        (lists (d .stack) ++ flight (d .stack)) (omega arith)
         (λ j m w. still-on j (on w) .frame) (λ j m w. still-on j (on w) .ln)
-        (record { shows = λ j m r. still-on j (d .registered j r) .ln; stays = λ j m r. still-on j (d .registered j r) .lq ∙ r; stays-off = λ j m r. stays-off j r })
+        (record {
+          shows = λ j m r. still-on j (d .registered j r) .ln;
+          stays =
+              λ j m r. still-on j (d .registered j r) .lq ∙ r;
+          stays-off = λ j m r. stays-off j r;
+        })
         (λ y (m : 0 < cnt y (lists (d .stack) ++ flight (d .stack))). same y (omega (arith, simp counts at m)))
-        (λ j m w. the-same (a .head) [] (sym (append-nil (d .settled))) (λ y (r : 0 < cnt y (d .settled)). same y (omega arith))) (omega arith) (λ y. simp counts (omega arith)) (λ r. a .tail) (d .pile);
+        (λ j m w. the-same (a .head) [] (sym (append-nil (d .settled)))
+        (λ y (r : 0 < cnt y (d .settled)). same y (omega arith))) (omega arith) (λ y. simp counts (omega arith))
+        (λ r. a .tail) (d .pile);
     stand = rw (a .head, a .tail) (record {
       hot = keep-hot (λ y (r : 0 < cnt y (d .hot)). same y (omega arith)) (d .stand .hot);
       settled = seg-same (λ y (r : 0 < cnt y (d .settled)). same y (omega arith)) (d .stand .settled);
@@ -63,7 +71,8 @@ module _ (s : Sizes) (q : ℕ) (U W : State) (a : Apart s q U W) where
     });
     listed = λ j o. d .listed j (rw (still-then j o .frame) at o);
     registered = λ j e. registered j e (a .level j);
-    one = λ i j x y u w. let f = still-then i x .frame in let g = still-then j y .frame in d .one i j (rw f at x) (rw g at y) (rw f at u) (rw g at w);
+    one = λ i j x y u w. let f = still-then i x .frame in let g = still-then j y .frame in
+        d .one i j (rw f at x) (rw g at y) (rw f at u) (rw g at w);
     nodes = λ y e. d .nodes y (sym (a .owns y) ∙ e);
     low = d .low;
     high = d .high;
@@ -78,5 +87,6 @@ module _ (s : Sizes) (q : ℕ) (U W : State) (a : Apart s q U W) where
       registered j e (others x y u w) = absurd (w e)
 
       -- a node that stands in some list is the queue's, so its link stood still
-      same : (y : ℕ) → 0 < cnt y (d .settled) + cnt y (d .hot) + cnt y (lists (d .stack)) + cnt y (flight (d .stack)) → W .mem .next y ≡ U .mem .next y
+      same : (y : ℕ) → 0 < cnt y (d .settled) + cnt y (d .hot) + cnt y (lists (d .stack)) + cnt y (flight (d .stack))
+          → W .mem .next y ≡ U .mem .next y
       same y h = a .next y (omega (arith, d .stand .all y, own-le (s .queues) (U .mem .uses) q y))

@@ -1,5 +1,6 @@
 -- The rules by which the stores change the ghost state, each at the top of the stack:
--- a chain is hung into the one below (E9, E18, E22), a cut is closed (E20, E24), a mark moves on (E11, E26), tail moves to a mark (E12, E27).
+-- a chain is hung into the one below (E9, E18, E22), a cut is closed (E20, E24), a mark moves on (E11, E26), tail moves to a mark
+-- (E12, E27).
 use Prim.Native.Nat.{ℕ, _+_, _≤_, _<_}
 use mathlib.Core.Path.{_≡_, refl, sym, ap, _∙_}
 use mathlib.Core.Logic.{_≢_, _⊎_, inl, inr}
@@ -12,7 +13,8 @@ use Rattle.lists.specs.Count.{cnt, cnt-self, counts}
 use Rattle.lists.specs.Beginning.{Beginning, without, without-append}
 use Rattle.state.specs.Mem.{Mem, put, put-same, upd}
 use Rattle.chains.specs.Member.{Last, differ}
-use Rattle.chains.specs.Seg.{Seg, stop, link, seg-put, seg-split, seg-join, seg-head, seg-rest, seg-turn-last, Walk, on, out, walk}
+use Rattle.chains.specs.Seg.{Seg, stop, link, seg-put, seg-split, seg-join, seg-head, seg-rest, seg-turn-last, Walk, on, out}
+use Rattle.chains.specs.Seg.{walk}
 use Rattle.table.specs.Frames.{ifEq, goTo, setC, walkTo}
 use Rattle.table.specs.declared.After.the-variants.{Go}
 use Rattle.invariant.specs.Ghost.{loose, owner, mark, lists, flight, leaving, follow, origin, start}
@@ -30,14 +32,18 @@ module _ (T : Turn) where
   open Turn T using (top, q, own, fr, l, st, M, f)
 
   -- a walk along p ∷ w, at the end of which stands 0: c is its last node, or goes on to a later one
-  pub along : {own′ : ℕ → ℕ} {front outs w : List ℕ} {p t : ℕ} (x : ℕ) → Seg (M .next) p (p ∷ w) t → t ≡ 0 → cnt 0 w ≡ 0 → 0 < cnt (f .c .0) (p ∷ w)
-      → (Last (f .c .0) (p ∷ w) → Ok T own′ front outs M (goTo x f)) → (0 < cnt (M .next (f .c .0)) (p ∷ w) → Ok T own′ front outs M (Go (setC (M .next (f .c .0)) f)))
+  pub along : {own′ : ℕ → ℕ} {front outs w : List ℕ} {p t : ℕ} (x : ℕ) → Seg (M .next) p (p ∷ w) t → t ≡ 0 → cnt 0 w ≡ 0
+      → 0 < cnt (f .c .0) (p ∷ w)
+      → (Last (f .c .0) (p ∷ w) → Ok T own′ front outs M (goTo x f))
+      → (0 < cnt (M .next (f .c .0)) (p ∷ w) → Ok T own′ front outs M (Go (setC (M .next (f .c .0)) f)))
       → Ok T own′ front outs M (walkTo x (M .next (f .c .0)) f)
   unfolding walkTo
   along {own′} {front} {outs} {w} {p} {t} x g e z h end step = by (walk (f .c .0) g h)
     where
-      by : Walk (M .next) (f .c .0) t (p ∷ w) w → Ok T own′ front outs M (ifEq (M .next (f .c .0)) 0 (goTo x f) (Go (setC (M .next (f .c .0)) f)))
-      by (on k) = by-eq T (λ (i : M .next (f .c .0) ≡ 0). absurd (let j : 0 < cnt 0 w = rw i at k in omega arith)) (λ i. step (simp counts (omega arith)))
+      by : Walk (M .next) (f .c .0) t (p ∷ w) w
+          → Ok T own′ front outs M (ifEq (M .next (f .c .0)) 0 (goTo x f) (Go (setC (M .next (f .c .0)) f)))
+      by (on k) = by-eq T (λ (i : M .next (f .c .0) ≡ 0). absurd (let j : 0 < cnt 0 w = rw i at k in omega arith))
+          (λ i. step (simp counts (omega arith)))
       by (out i k) = by-eq T (λ j. end k) (λ j. absurd (j (i ∙ e)))
 
   -- n's chain n ∷ w is hung behind c, a node of the hot list y below: what stood behind c joins the piece
@@ -49,8 +55,13 @@ module _ (T : Turn) where
 
   pub hang : {b : Bool} {S x y : List ℕ} (n c : ℕ) (pre rest : List ℕ) → y ≡ pre ++ c ∷ rest → HotBelow T y
       → Below T M S b → (s : Lists T own M S x (owner n y)) → Hung S b n c (s .hot .more) pre rest
-  hang {b} {S} {x} {y} n c pre rest e t d s = record
-      { pile = below-next T d c n (omega (arith, c-once)); stand = stand; ends = seg-put c n (omega (arith, c-once)) chain; hangs = seg-put c n (omega (arith, c-once)) (seg-rest (two .2)) }
+  hang {b} {S} {x} {y} n c pre rest e t d s = record {
+    pile = below-next T d c n (omega (arith, c-once));
+    stand = stand;
+    ends =
+        seg-put c n (omega (arith, c-once)) chain;
+    hangs = seg-put c n (omega (arith, c-once)) (seg-rest (two .2));
+  }
     where
       w : List ℕ
       w = s .hot .more
@@ -77,7 +88,8 @@ module _ (T : Turn) where
           more = begins .0;
           begins = begins .1;
           alone = λ a z. absurd (n-some z);
-          linked = seg-join (seg-put c n (omega (arith, c-once)) (two .1)) (link (seg-head (two .2)) (stop (put-same (M .next) c n)));
+          linked = seg-join (seg-put c n (omega (arith, c-once)) (two .1))
+              (link (seg-head (two .2)) (stop (put-same (M .next) c n)));
         };
         settled = seg-put c n (omega (arith, c-once)) (s .settled);
         all = λ z. simp counts (omega (arith, simp (e, counts) at (s .all z), simp counts at (ap (cnt z) (s .hot .begins))));
@@ -94,29 +106,45 @@ module _ (T : Turn) where
   close {b} {S} {x} {w} {p} {r} c u e d s = record {
     pile = below-next T d c r (omega (arith, c-once));
     stand = record {
-      hot = record { more = s .hot .more; begins = s .hot .begins; alone = s .hot .alone; linked = seg-put c r (omega (arith, c-once)) (s .hot .linked) };
+      hot = record {
+        more = s .hot .more;
+        begins = s .hot .begins;
+        alone = s .hot .alone;
+        linked =
+            seg-put c r (omega (arith, c-once)) (s .hot .linked);
+      };
       settled = seg-put c r (omega (arith, c-once)) (s .settled);
       all = s .all;
     };
-    whole = rw (u .whole) (seg-join (seg-turn-last c r e (omega (arith, c-once)) (u .ends)) (seg-put c r (omega (arith, c-once)) (u .hangs)));
+    whole = rw (u .whole)
+        (seg-join (seg-turn-last c r e (omega (arith, c-once)) (u .ends)) (seg-put c r (omega (arith, c-once)) (u .hangs)));
   }
     where
       in-block : 0 < cnt c (p ∷ u .block)
       in-block = rw (e .1) (simp counts (omega arith))
 
-      c-once : (cnt c (p ∷ u .block) ≤ 1) × (cnt c S + (cnt c x + (cnt c (u .rest) + (cnt c (lists st) + cnt c (flight st)))) ≡ 0)
-      c-once = let a = simp (u .whole, counts) at (s .all c) in let i = simp counts at in-block in simp counts (omega (arith, T .once c))
+      c-once : (cnt c (p ∷ u .block) ≤ 1) ×
+          (cnt c S + (cnt c x + (cnt c (u .rest) + (cnt c (lists st) + cnt c (flight st)))) ≡ 0)
+      c-once = let a = simp (u .whole, counts) at (s .all c) in let i = simp counts at in-block in
+          simp counts (omega (arith, T .once c))
 
   -- a mark moves on to c, a node of its piece: what stands before c is hot
   pub record Moved (S x : List ℕ) (c : ℕ) (post : List ℕ) : Type 0 where
     pub stand : Lists T own M S x (mark c post)
     pub piece : Seg (M .next) c (c ∷ post) (follow st)
 
-  pub move-on : {S x w : List ℕ} {p : ℕ} (c : ℕ) (pre post : List ℕ) → p ∷ w ≡ pre ++ c ∷ post → Seg (M .next) p (p ∷ w) (follow st)
+  pub move-on : {S x w : List ℕ} {p : ℕ} (c : ℕ) (pre post : List ℕ) → p ∷ w ≡ pre ++ c ∷ post
+      → Seg (M .next) p (p ∷ w) (follow st)
       → Lists T own M S x (mark p w) → Moved S (x ++ pre) c post
   move-on {S} {x} {w} {p} c pre post e g s = record {
     stand = record {
-      hot = record { more = s .hot .more ++ pre; begins = ap (λ y. y ++ pre) (s .hot .begins); alone = λ a z. absurd (c-some z); linked = seg-join (s .hot .linked) (rw m= at (two .1)) };
+      hot = record {
+        more = s .hot .more ++ pre;
+        begins = ap (λ y. y ++ pre) (s .hot .begins);
+        alone =
+            λ a z. absurd (c-some z);
+        linked = seg-join (s .hot .linked) (rw m= at (two .1));
+      };
       settled = s .settled;
       all = λ y. simp counts (omega (arith, simp counts at (s .all y), simp counts at (ap (cnt y) e)));
     };
@@ -130,13 +158,20 @@ module _ (T : Turn) where
       m= = seg-head (two .2)
 
       c-some : c ≢ 0
-      c-some = differ (pre ++ c ∷ post) (simp counts (omega arith)) (rw (sym e) (simp counts (omega (arith, simp counts at (s .all 0), T .none))))
+      c-some = differ (pre ++ c ∷ post) (simp counts (omega arith))
+          (rw (sym e) (simp counts (omega (arith, simp counts at (s .all 0), T .none))))
 
   -- a mark is taken off: its piece is hot
   pub take-off : {S x w : List ℕ} {p : ℕ} → (origin top st ≡ top → follow st ≢ 0) → Seg (M .next) p (p ∷ w) (follow st)
       → Lists T own M S x (mark p w) → Lists T own M S (x ++ p ∷ w) (loose [] [])
   take-off {S} {x} {w} {p} h g s = record {
-    hot = record { more = s .hot .more ++ p ∷ w; begins = ap (λ y. y ++ p ∷ w) (s .hot .begins); alone = λ a z. absurd (h a z); linked = seg-join (s .hot .linked) g };
+    hot = record {
+      more = s .hot .more ++ p ∷ w;
+      begins = ap (λ y. y ++ p ∷ w) (s .hot .begins);
+      alone =
+          λ a z. absurd (h a z);
+      linked = seg-join (s .hot .linked) g;
+    };
     settled = s .settled;
     all = λ y. simp counts (omega (arith, simp counts at (s .all y)));
   }
@@ -148,7 +183,8 @@ module _ (T : Turn) where
     pub stand : Lists T own (upd M (Tail (f .queue)) p) (S ++ x) (p ∷ w) (loose [] [])
     pub begins : Beginning (front T M S (mark p w)) (front T (upd M (Tail (f .queue)) p) (S ++ x) (loose [] []))
 
-  pub settle : {S x w : List ℕ} {p : ℕ} → origin top st ≡ top → (follow st ≡ 0 → w ≡ []) → Seg (M .next) p (p ∷ w) (follow st)
+  pub settle : {S x w : List ℕ} {p : ℕ} → origin top st ≡ top → (follow st ≡ 0 → w ≡ [])
+      → Seg (M .next) p (p ∷ w) (follow st)
       → Below T M S false → Lists T own M S x (mark p w) → Set S x w p
   settle {S} {x} {w} {p} h a g d s = record { tail-is = tail=; pile = pile; stand = stand; begins = begins }
     where
@@ -159,7 +195,8 @@ module _ (T : Turn) where
       tail= = rw (T .here .queued) (put-same (M .tail) q p)
 
       pile : Below T (upd M (Tail (f .queue)) p) (S ++ x) false
-      pile = keep-all (view q M S) (view q M′ (S ++ x)) fr fr l (lists st ++ flight st) (omega (arith, T .below)) (λ j m. refl) (λ j m. refl) (λ j m. refl) (λ y m. refl)
+      pile = keep-all (view q M S) (view q M′ (S ++ x)) fr fr l (lists st ++ flight st) (omega (arith, T .below))
+          (λ j m. refl) (λ j m. refl) (λ j m. refl) (λ y m. refl)
           (λ j m n. the-same refl x refl (λ y r. refl)) (omega arith) (λ y. simp counts (omega arith)) (λ r. absurd (no r)) d
         where
           no : (false ≡ true) ⊎ (origin top st ≢ top) → ⊥
@@ -182,8 +219,13 @@ module _ (T : Turn) where
       x-is : x ≡ M .tail q ∷ s .hot .more
       x-is = s .hot .begins ∙ ap (λ y. y ∷ s .hot .more) old
 
-      longer : (leaving st ++ (S ++ M .tail q ∷ [])) ++ (s .hot .more ++ p ∷ []) ≡ leaving st ++ ((S ++ x) ++ M′ .tail q ∷ [])
+      longer : (leaving st ++ (S ++ M .tail q ∷ [])) ++ (s .hot .more ++ p ∷ []) ≡ leaving st ++
+          ((S ++ x) ++ M′ .tail q ∷ [])
       longer = rw (tail=, x-is) (simp append-assoc)
 
       begins : Beginning (front T M S (mark p w)) (front T (upd M (Tail (f .queue)) p) (S ++ x) (loose [] []))
-      begins = (without q (s .hot .more ++ p ∷ []), sym (without-append q (leaving st ++ (S ++ M .tail q ∷ [])) (s .hot .more ++ p ∷ [])) ∙ ap (without q) longer)
+      begins = (
+        without q (s .hot .more ++ p ∷ []),
+        sym
+            (without-append q (leaving st ++ (S ++ M .tail q ∷ [])) (s .hot .more ++ p ∷ [])) ∙ ap (without q) longer,
+      )

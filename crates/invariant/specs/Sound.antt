@@ -1,4 +1,5 @@
--- The invariant of queue q in a state, with the frozen front of the queue: its nodes, once each, are those settled, those of the hot list, and those of the operations on it.
+-- The invariant of queue q in a state, with the frozen front of the queue: its nodes, once each, are those settled, those of the
+-- hot list, and those of the operations on it.
 -- It holds of every queue at rest, and a queue at rest that has it is one chain from head to tail.
 use Prim.Native.Nat.{ℕ, _≤_, _<_}
 use mathlib.Core.Path.{_≡_, refl, ap, _∙_}
@@ -47,7 +48,8 @@ pub record Chained (s : Sizes) (q : ℕ) (W : State) (front : List ℕ) : Type 0
 
 -- ---- at rest
 
-pub quiet : (s : Sizes) (q : ℕ) (W : State) (front : List ℕ) → Sound s q W front → ((j : ℕ) → ¬ On q (W .frames j)) → Chained s q W front
+pub quiet : (s : Sizes) (q : ℕ) (W : State) (front : List ℕ) → Sound s q W front → ((j : ℕ) → ¬ On q (W .frames j))
+    → Chained s q W front
 quiet s q W front d h = by (d .stack) (d .done) (d .pile) (d .stand) (d .front-is)
   where
     M : List ℕ
@@ -67,7 +69,8 @@ quiet s q W front d h = by (d .stack) (d .done) (d .pile) (d .stand) (d .front-i
     by _ _ (upon {l = l} a o i k p) t e = absurd (h l ((λ (z : W .frames l .op ≡ 0). omega (arith, o)), o .queued))
 
 -- the settled nodes and tail, in one chain
-pub sound-start : (s : Sizes) (q : ℕ) (W : State) (front : List ℕ) → 1 ≤ q → q ≤ s .queues → s .queues ≤ s .nodes → ((j : ℕ) → ¬ On q (W .frames j))
+pub sound-start : (s : Sizes) (q : ℕ) (W : State) (front : List ℕ) → 1 ≤ q → q ≤ s .queues → s .queues ≤ s .nodes
+    → ((j : ℕ) → ¬ On q (W .frames j))
     → ((j : ℕ) → W .mem .lq j ≢ q) → ((n : ℕ) → s .nodes < n → W .mem .uses n ≡ 0) → Chained s q W front → Sound s q W front
 sound-start s q W front a b c h r u k = record {
   settled = k .ends .0;

@@ -107,7 +107,8 @@ module _ (T : Turn) where
         → M′ .lq l ≢ q → Below M′ S b → Left own′ M′ S x
         → Beginning frozen (outs ++ frontOf q M′ S st) → Ok own′ frozen outs M′ (Done n)
 
-  pub by-eq : {own′ : ℕ → ℕ} {frozen outs : List ℕ} {M′ : Mem} {a b : ℕ} {x y : After} → (a ≡ b → Ok own′ frozen outs M′ x) → (a ≢ b → Ok own′ frozen outs M′ y) → Ok own′ frozen outs M′ (ifEq a b x y)
+  pub by-eq : {own′ : ℕ → ℕ} {frozen outs : List ℕ} {M′ : Mem} {a b : ℕ} {x y : After} → (a ≡ b → Ok own′ frozen outs M′ x)
+      → (a ≢ b → Ok own′ frozen outs M′ y) → Ok own′ frozen outs M′ (ifEq a b x y)
   unfolding ifEq
   by-eq {own′} {frozen} {outs} {M′} {a} {b} {x} {y} h k = go (eqb a b) (same? a b)
     where
@@ -117,16 +118,20 @@ module _ (T : Turn) where
 
   -- a step at point p: from each ghost state that fits the frame to one that fits what the step leaves
   abbrev pub Case : Point → Type 0
-  Case p = pointOf (f .point) ≡ p → (S x : List ℕ) (i : Item) (b b′ : Bool) → At M S f p i b b′ → Below M S b → Lists (T .own) M S x i
-      → Ok (T .own) (front M S i) (outOf (row p f (level l) (level top))) (memAfter M (row p f (level l) (level top))) (then M (row p f (level l) (level top)) f)
+  Case p = pointOf (f .point) ≡ p → (S x : List ℕ) (i : Item) (b b′ : Bool) → At M S f p i b b′ → Below M S b
+      → Lists (T .own) M S x i
+      → Ok (T .own) (front M S i) (outOf (row p f (level l) (level top))) (memAfter M (row p f (level l) (level top)))
+      (then M (row p f (level l) (level top)) f)
 
   -- to point p, and the front stands still
-  pub stay : {f′ : Frame} {S x : List ℕ} {b b′ : Bool} {own′ : ℕ → ℕ} {M′ : Mem} (p : Point) (i : Item) → pointOf (f′ .point) ≡ p → f′ .op ≡ f .op → f′ .queue .0 ≡ f .queue .0
+  pub stay : {f′ : Frame} {S x : List ℕ} {b b′ : Bool} {own′ : ℕ → ℕ} {M′ : Mem} (p : Point) (i : Item)
+      → pointOf (f′ .point) ≡ p → f′ .op ≡ f .op → f′ .queue .0 ≡ f .queue .0
       → At M′ S f′ p i b b′ → Below M′ S b → Lists own′ M′ S x i
       → Ok own′ (front M′ S i) [] M′ (Go f′)
   stay p i a b c d e s = goes-on a b c d e s (begins-same _)
 
-  pub to : {f′ : Frame} {S x : List ℕ} {b b′ : Bool} {own′ : ℕ → ℕ} {M′ : Mem} (p : Point) (i : Item) → f′ .point ≡ numberOf p → f′ .op ≡ f .op → f′ .queue .0 ≡ f .queue .0
+  pub to : {f′ : Frame} {S x : List ℕ} {b b′ : Bool} {own′ : ℕ → ℕ} {M′ : Mem} (p : Point) (i : Item)
+      → f′ .point ≡ numberOf p → f′ .op ≡ f .op → f′ .queue .0 ≡ f .queue .0
       → At M′ S f′ p i b b′ → Below M′ S b → Lists own′ M′ S x i
       → Ok own′ (front M′ S i) [] M′ (Go f′)
   to {f′} p i a b c d e s = stay p i (point-is p (f′ .point) a) b c d e s
@@ -134,18 +139,25 @@ module _ (T : Turn) where
   -- what lies below stands still: one law for each kind of store
   module _ {S : List ℕ} {b : Bool} (d : Below M S b) where
     same-below : (M′ : Mem) → ((j : ℕ) → j < l → M′ .ln j ≡ M .ln j) → ((j : ℕ) → j < l → M′ .lq j ≡ M .lq j)
-        → ((y : ℕ) → 0 < cnt y S + cnt y (lists st) + cnt y (flight st) → M′ .next y ≡ M .next y) → M′ .head q ≡ M .head q → M′ .tail q ≡ M .tail q
+        → ((y : ℕ) → 0 < cnt y S + cnt y (lists st) + cnt y (flight st) → M′ .next y ≡ M .next y) → M′ .head q ≡ M .head q
+        → M′ .tail q ≡ M .tail q
         → Below M′ S b
     same-below M′ ln= lq= next= head= tail= =
-        keep-all (view q M S) (view q M′ S) fr fr l (lists st ++ flight st) (omega (arith, T .below)) (λ j m. refl) ln= lq= (λ y (m : 0 < cnt y (lists st ++ flight st)). next= y (omega (arith, cnt-append y (lists st) (flight st))))
-        (λ j m n. the-same head= [] (sym (append-nil S)) (λ y (r : 0 < cnt y S). next= y (omega arith))) (omega arith) (λ y. simp counts (omega arith)) (λ r. tail=) d
+        keep-all (view q M S) (view q M′ S) fr fr l (lists st ++ flight st) (omega (arith, T .below)) (λ j m. refl) ln= lq=
+        (λ y (m : 0 < cnt y (lists st ++ flight st)). next= y (omega (arith, cnt-append y (lists st) (flight st))))
+        (λ j m n. the-same head= [] (sym (append-nil S)) (λ y (r : 0 < cnt y S). next= y (omega arith))) (omega arith)
+        (λ y. simp counts (omega arith)) (λ r. tail=) d
 
     pub below-ln : (v : ℕ) → Below (upd M (LevelNode (level l)) v) S b
-    below-ln v = same-below (upd M (LevelNode (level l)) v) (λ j m. put-other (M .ln) l v j (omega arith)) (λ j m. refl) (λ y m. refl) refl refl
+    below-ln v = same-below (upd M (LevelNode (level l)) v) (λ j m. put-other (M .ln) l v j (omega arith)) (λ j m. refl)
+        (λ y m. refl) refl refl
 
     pub below-lq : (v : ℕ) → Below (upd M (LevelQueue (level l)) v) S b
-    below-lq v = same-below (upd M (LevelQueue (level l)) v) (λ j m. refl) (λ j m. put-other (M .lq) l v j (omega arith)) (λ y m. refl) refl refl
+    below-lq v = same-below (upd M (LevelQueue (level l)) v) (λ j m. refl) (λ j m. put-other (M .lq) l v j (omega arith))
+        (λ y m. refl) refl refl
 
-    pub below-next : (a v : ℕ) → cnt a S + cnt a (lists st) + cnt a (flight st) ≡ 0 → Below (upd M (Next (record { 0 = a })) v) S b
+    pub below-next : (a v : ℕ) → cnt a S + cnt a (lists st) + cnt a (flight st) ≡ 0
+        → Below (upd M (Next (record { 0 = a })) v) S b
     below-next a v z = same-below (upd M (Next (record { 0 = a })) v) (λ j m. refl) (λ j m. refl)
-        (λ y (m : 0 < cnt y S + cnt y (lists st) + cnt y (flight st)). put-other (M .next) a v y (λ e. let w : cnt y S + cnt y (lists st) + cnt y (flight st) ≡ 0 = rw e z in omega arith)) refl refl
+        (λ y (m : 0 < cnt y S + cnt y (lists st) + cnt y (flight st)). put-other (M .next) a v y
+        (λ e. let w : cnt y S + cnt y (lists st) + cnt y (flight st) ≡ 0 = rw e z in omega arith)) refl refl
