@@ -9,12 +9,12 @@ use Rattle.words.specs.declared.Frame.{Frame}
 use Rattle.lists.specs.Count.{cnt, counts}
 use Rattle.state.specs.Step.{State}
 use Rattle.state.specs.Queues.{On, Apart, Alike, still, others}
-use Rattle.chains.specs.Seg.{seg-same}
+use Rattle.chains.proofs.Links.{seg-same}
 use Rattle.invariant.specs.Ghost.{lists, flight}
 use Rattle.invariant.specs.Facts.{Works}
-use Rattle.invariant.specs.Keep.{keep, keep-hot, the-same}
-use Rattle.invariant.specs.Own.{own-le}
-use Rattle.invariant.specs.Turn.{view}
+use Rattle.invariant.proofs.Keep.{keep, keep-hot, the-same}
+use Rattle.invariant.proofs.Own.{own-le}
+use Rattle.invariant.specs.Sound.{view}
 use Rattle.invariant.specs.Sound.{Sound}
 
 module _ (s : Sizes) (q : ℕ) (U W : State) (a : Apart s q U W) where

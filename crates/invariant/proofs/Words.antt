@@ -21,15 +21,15 @@ use Rattle.words.specs.declared.Node.{Node}
 use Rattle.words.specs.declared.Word.the-variants.{Next, LevelQueue}
 use Rattle.words.specs.declared.Word.{Word}
 use Rattle.words.specs.declared.Level.{Level}
-use Rattle.chains.specs.Member.{last-in}
+use Rattle.chains.proofs.Members.{last-in}
 use Rattle.invariant.specs.Ghost.{Item, Stack, push, lists, flight, follow, origin, start}
 use Rattle.invariant.specs.Facts.{Regs, View, Hot, Loose, Unlinked, Linked, Here, is-loose, is-owner, is-mark, Pile}
 use Rattle.invariant.specs.Facts.{d3, d4, d6, d7, e3, e4, e6, e8, e9, e13, e14, e16, e17, e18, e21, e22, e10, e19, e20}
 use Rattle.invariant.specs.Facts.{e23, e24}
-use Rattle.invariant.specs.Own.{own-le, own-user}
-use Rattle.invariant.specs.Keep.{aim-first}
-use Rattle.invariant.specs.Below.{hot-start, nobody}
-use Rattle.invariant.specs.Turn.{StandIn, ownIn, HereIn, PileIn}
+use Rattle.invariant.proofs.Own.{own-le, own-user}
+use Rattle.invariant.proofs.Keep.{aim-first}
+use Rattle.invariant.proofs.Below.{hot-start, nobody}
+use Rattle.invariant.specs.Sound.{StandIn, ownIn, HereIn, PileIn}
 
 -- ---- no operation stands at an unknown point
 

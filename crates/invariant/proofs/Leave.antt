@@ -18,15 +18,16 @@ use Rattle.state.specs.Queues.{outOf}
 use Rattle.table.specs.Points.{E1, E28, E29, D1, D2, D3, D4, D5, D6, D7, pointOf}
 use Rattle.table.specs.Laws.{point-is}
 use Rattle.table.specs.Table.{row}
-use Rattle.chains.specs.Member.{differ}
-use Rattle.chains.specs.Seg.{Seg, stop, link, seg-put, seg-rest, Walk, on, out, walk}
+use Rattle.chains.proofs.Members.{differ}
+use Rattle.chains.specs.Seg.{Seg, stop, link}
+use Rattle.chains.proofs.Links.{seg-put, seg-rest, Walk, on, out, walk}
 use Rattle.invariant.specs.Ghost.{Item, loose, lists, flight, leaving, origin}
 use Rattle.invariant.specs.Facts.{e1, e28-off, e29, d1, d2, d3, d4, d5, d6, d7, e28, is-loose, is-mark, is-done}
-use Rattle.invariant.specs.Keep.{keep-all, keep-hot, no-dequeue}
-use Rattle.invariant.specs.Below.{hot-start, tail-in, start-own, none-leaving}
-use Rattle.invariant.specs.Turn.{view, Turn, Ok, goes-on, has-ended, by-eq, Case, to, below-ln, below-lq, below-next}
-use Rattle.invariant.specs.Turn.{At, Below, Lists, Left, front}
-use Rattle.invariant.specs.Rules.{take-off}
+use Rattle.invariant.proofs.Keep.{keep-all, keep-hot, no-dequeue}
+use Rattle.invariant.proofs.Below.{hot-start, tail-in, start-own, none-leaving}
+use Rattle.invariant.proofs.Turn.{Turn, Ok, goes-on, has-ended, by-eq, Case, to, below-ln, below-lq, below-next, At, Below, Lists, Left, front}
+use Rattle.invariant.specs.Sound.{view}
+use Rattle.invariant.proofs.Rules.{take-off}
 
 module _ (T : Turn) where
   open Turn T using (top, q, own, fr, l, st, M, f)

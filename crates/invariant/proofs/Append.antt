@@ -9,12 +9,12 @@ use Rattle.table.specs.Points.{E7, E8, E9, E10, E11, E12, E28}
 use Rattle.table.specs.Laws.{point-is}
 use Rattle.table.specs.Frames.{walkTo}
 use Rattle.table.specs.Table.{row}
-use Rattle.chains.specs.Seg.{seg-rest, seg-nil}
+use Rattle.chains.proofs.Links.{seg-rest, seg-nil}
 use Rattle.invariant.specs.Ghost.{owner, mark}
 use Rattle.invariant.specs.Facts.{Hot, e7, e8, e9, e10, e11, e12, is-owner, is-mark, is-done}
-use Rattle.invariant.specs.Below.{nobody}
-use Rattle.invariant.specs.Turn.{Turn, goes-on, by-eq, Case, stay, to, below-ln}
-use Rattle.invariant.specs.Rules.{along, hang, move-on, settle}
+use Rattle.invariant.proofs.Below.{nobody}
+use Rattle.invariant.proofs.Turn.{Turn, goes-on, by-eq, Case, stay, to, below-ln}
+use Rattle.invariant.proofs.Rules.{along, hang, move-on, settle}
 
 -- the queue's own chain with no mark in it: tail alone, and its link ends
 record Bare (next : ℕ → ℕ) (tail : ℕ) (x : List ℕ) : Type 0 where

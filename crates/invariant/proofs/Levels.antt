@@ -12,7 +12,7 @@ use Rattle.lists.specs.Count.{Same, same, apart, same?, counts}
 use Rattle.state.specs.Mem.{put, put-same, put-other}
 use Rattle.invariant.specs.Ghost.{Stack, lists, flight}
 use Rattle.invariant.specs.Facts.{View, Pile, bottom, upon}
-use Rattle.invariant.specs.Keep.{upon′, keep-all, the-same}
+use Rattle.invariant.proofs.Keep.{upon′, keep-all, the-same}
 
 -- a fact of every level: of l with its new frame, and of the others
 pub each : (fr : ℕ → Frame) (l : ℕ) (P : ℕ → Frame → Type 0) (g : Frame) → P l g → ((j : ℕ) → j ≢ l → P j (fr j)) → (j : ℕ)

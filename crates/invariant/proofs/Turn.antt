@@ -3,18 +3,17 @@ use Prim.Native.Nat.{ℕ, _+_, _≤_, _<_}
 use mathlib.Core.Path.{_≡_, refl, sym}
 use mathlib.Core.Logic.{_≢_}
 use mathlib.Core.Bool.{Bool, true, false, cond}
-use mathlib.Core.List.{List, [], _∷_, _++_, append-nil}
+use mathlib.Core.List.{List, [], _++_, append-nil}
 use native.Mathlib.Omega.{arith}
 use lib.Dec.{eqb}
-use Rattle.words.specs.declared.Sizes.{Sizes}
 use Rattle.words.specs.declared.Frame.{Frame}
 use Rattle.words.specs.declared.Node.{Node}
 use Rattle.words.specs.Layout.{level}
 use Rattle.lists.specs.Count.{Same, same, apart, same?, cnt, cnt-append, counts}
-use Rattle.lists.specs.Beginning.{Beginning, without, begins-same}
+use Rattle.lists.specs.Beginning.{Beginning, begins-same}
 use Rattle.words.specs.declared.Word.the-variants.{LevelNode, LevelQueue, Next}
 use Rattle.state.specs.Mem.{Mem, put-other, upd}
-use Rattle.state.specs.Step.{State, memAfter, then}
+use Rattle.state.specs.Step.{memAfter, then}
 use Rattle.state.specs.Queues.{own, outOf}
 use Rattle.table.specs.Points.{Point, numberOf, pointOf}
 use Rattle.table.specs.Laws.{point-is}
@@ -22,39 +21,10 @@ use Rattle.table.specs.Frames.{ifEq}
 use Rattle.table.specs.Table.{row}
 use Rattle.table.specs.declared.After.{After}
 use Rattle.table.specs.declared.After.the-variants.{Go, Done}
-use Rattle.chains.specs.Seg.{Seg}
-use Rattle.invariant.specs.Ghost.{Item, Stack, push, lists, flight, leaving, follow, origin, start, Listed}
-use Rattle.invariant.specs.Facts.{regs, View, Hot, Here, Works, Pile}
-use Rattle.invariant.specs.Keep.{keep-all, the-same}
-
--- what queue q's facts read in a memory
-abbrev pub view : ℕ → Mem → List ℕ → View
-view q M S = record { ln = M .ln; lq = M .lq; next = M .next; head = M .head q; tail = M .tail q; settled = S }
-
--- the settled nodes, the hot list and the stack's lists hold the queue's nodes, each as often as own says
-pub record Stand (top : ℕ) (own next : ℕ → ℕ) (head tail : ℕ) (S x : List ℕ) (st : Stack) : Type 0 where
-  pub hot : Hot top next (origin top st) (start tail st) (follow st) x
-  pub settled : Seg next head S tail
-  pub all : (y : ℕ) → cnt y S + cnt y x + cnt y (lists st) + cnt y (flight st) ≡ own y
-
--- the frozen front of the queue: what is going out, and the settled nodes with tail, the sentinel left out
-abbrev pub frontOf : ℕ → Mem → List ℕ → Stack → List ℕ
-frontOf q M S st = without q (leaving st ++ (S ++ M .tail q ∷ []))
-
--- the same of queue q in a state, of the sizes s
-abbrev pub ownIn : Sizes → ℕ → State → ℕ → ℕ
-ownIn s q W = own (s .queues) (W .mem .uses) q
-
-abbrev pub HereIn : Sizes → ℕ → State → List ℕ → ℕ → Frame → Point → Item → Stack → Bool → Bool → Type 0
-HereIn s q W S l f p i st b b′ = Here (s .levels) q (view q (W .mem) S) l (regs f) p i st b b′
-
-abbrev pub PileIn : Sizes → ℕ → State → List ℕ → ℕ → Stack → Bool → Type 0
-PileIn s q W S n st b = Pile (s .levels) q (view q (W .mem) S) (W .frames) n st b
-
-abbrev pub StandIn : Sizes → ℕ → State → List ℕ → List ℕ → Stack → Type 0
-StandIn s q W S x st = Stand (s .levels) (ownIn s q W) (W .mem .next) (W .mem .head q) (W .mem .tail q) S x st
-
--- ---- a turn
+use Rattle.invariant.specs.Ghost.{Item, Stack, push, lists, flight, follow, origin, start, Listed}
+use Rattle.invariant.specs.Facts.{regs, Hot, Here, Works, Pile}
+use Rattle.invariant.specs.Sound.{view, Stand, frontOf}
+use Rattle.invariant.proofs.Keep.{keep-all, the-same}
 
 pub record Turn : Type 0 where
   pub top : ℕ

@@ -9,7 +9,7 @@ use native.Mathlib.Omega.{arith}
 use Rattle.words.specs.declared.Frame.{Frame}
 use Rattle.lists.specs.Count.{cnt, cnt-self, counts}
 use Rattle.table.specs.Points.{Point, pointOf}
-use Rattle.chains.specs.Seg.{seg-same}
+use Rattle.chains.proofs.Links.{seg-same}
 use Rattle.invariant.specs.Ghost.{Item, loose, owner, mark, Stack, push, lists, flight, origin}
 use Rattle.invariant.specs.Facts.{Regs, regs, View, Hot, Loose, e1, e2, e28-off, e29, d1, d2, d3, d4, d5, d6, d7}
 use Rattle.invariant.specs.Facts.{Highest, Aim, behind, before, Unlinked, e3, e4, e5, e6, e7, e8, e9, e13, e14, e15}

@@ -15,10 +15,11 @@ use Rattle.chains.specs.Seg.{stop, link}
 use Rattle.invariant.specs.Ghost.{loose, owner, push, follow, origin, start}
 use Rattle.invariant.specs.Facts.{e1, e2, Free, Aim, behind, before, NotPast, e3, e4, e5, e6, e7, e13, e15, is-loose}
 use Rattle.invariant.specs.Facts.{is-owner}
-use Rattle.invariant.specs.Below.{hot-start, Shown, at-owner, at-mark, at-done, shown, taken-off}
+use Rattle.invariant.proofs.Below.{hot-start, Shown, at-owner, at-mark, at-done, shown, taken-off}
 use Rattle.words.specs.Layout.{level}
 use Rattle.state.specs.Step.{memAfter, then}
-use Rattle.invariant.specs.Turn.{Stand, Turn, Ok, by-eq, Case, to, below-ln, below-lq, Below, front}
+use Rattle.invariant.proofs.Turn.{Turn, Ok, by-eq, Case, to, below-ln, below-lq, Below, front}
+use Rattle.invariant.specs.Sound.{Stand}
 
 -- k itself is not registered either
 free-down : {q k l : ℕ} {lq : ℕ → ℕ} → lq k ≢ q → Free lq q k l → (j : ℕ) → k ≤ j → j < l → lq j ≢ q

@@ -12,16 +12,19 @@ use Rattle.words.specs.Layout.{node, queue}
 use Rattle.lists.specs.Count.{cnt, cnt-self, counts}
 use Rattle.lists.specs.Beginning.{Beginning, without, without-append}
 use Rattle.state.specs.Mem.{Mem, put, put-same, upd}
-use Rattle.chains.specs.Member.{Last, differ}
-use Rattle.chains.specs.Seg.{Seg, stop, link, seg-put, seg-split, seg-join, seg-head, seg-rest, seg-turn-last, Walk, on, out}
-use Rattle.chains.specs.Seg.{walk}
+use Rattle.chains.specs.Member.{Last}
+use Rattle.chains.proofs.Members.{differ}
+use Rattle.chains.specs.Seg.{Seg, stop, link}
+use Rattle.chains.proofs.Links.{seg-put, seg-split, seg-join, seg-head, seg-rest, seg-turn-last, Walk, on, out}
+use Rattle.chains.proofs.Links.{walk}
 use Rattle.table.specs.Frames.{ifEq, goTo, setC, walkTo}
 use Rattle.table.specs.declared.After.the-variants.{Go}
 use Rattle.invariant.specs.Ghost.{loose, owner, mark, lists, flight, leaving, follow, origin, start}
 use Rattle.invariant.specs.Facts.{Cut}
-use Rattle.invariant.specs.Keep.{keep-all, the-same}
-use Rattle.invariant.specs.Below.{start-own}
-use Rattle.invariant.specs.Turn.{view, Turn, Ok, by-eq, below-next, Below, Lists, front, HotBelow}
+use Rattle.invariant.proofs.Keep.{keep-all, the-same}
+use Rattle.invariant.proofs.Below.{start-own}
+use Rattle.invariant.proofs.Turn.{Turn, Ok, by-eq, below-next, Below, Lists, front, HotBelow}
+use Rattle.invariant.specs.Sound.{view}
 
 -- a list cut behind c still begins as it did
 begins-cut : (s c : ℕ) (pre rest more : List ℕ) → pre ++ c ∷ rest ≡ s ∷ more → (m : List ℕ) × (pre ++ c ∷ [] ≡ s ∷ m)

@@ -14,13 +14,14 @@ use Rattle.table.specs.Points.{E13, E14, E15, E16, E17, E21}
 use Rattle.table.specs.Frames.{belowMTo, goTo, setA}
 use Rattle.table.specs.Table.{row}
 use Rattle.table.specs.declared.After.{After}
-use Rattle.chains.specs.Member.{Last, either, differ}
-use Rattle.chains.specs.Seg.{Walk, on, out, walk}
+use Rattle.chains.specs.Member.{Last}
+use Rattle.chains.proofs.Members.{either, differ}
+use Rattle.chains.proofs.Links.{Walk, on, out, walk}
 use Rattle.invariant.specs.Ghost.{owner, lists, follow, origin, start}
 use Rattle.invariant.specs.Facts.{Aim, behind, before, NotPast, Walking, e13, e14, e15, e16, e17, e21, is-owner}
-use Rattle.invariant.specs.Below.{hot-start, start-own, start-owned, tail-in, origin-registered, Leads, leads, inner}
-use Rattle.invariant.specs.Below.{inner-lists, inner-follow, shows}
-use Rattle.invariant.specs.Turn.{Turn, Ok, by-eq, Case, stay, to, Below, Lists, front, HotBelow}
+use Rattle.invariant.proofs.Below.{hot-start, start-own, start-owned, tail-in, origin-registered, Leads, leads, inner}
+use Rattle.invariant.proofs.Below.{inner-lists, inner-follow, shows}
+use Rattle.invariant.proofs.Turn.{Turn, Ok, by-eq, Case, stay, to, Below, Lists, front, HotBelow}
 
 -- the aim with another fact of the search
 aim-map : {top o s t p : ℕ} {P R : Type 0} → (p ≡ t → p ≢ 0 → P → R) → Aim top o s t p P → Aim top o s t p R

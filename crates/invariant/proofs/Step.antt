@@ -24,19 +24,19 @@ use Rattle.table.specs.Table.{Row, row}
 use Rattle.table.specs.declared.After.{After}
 use Rattle.invariant.specs.Ghost.{Item, Stack, push, Listed}
 use Rattle.invariant.specs.Facts.{Regs, regs, View, Here, is-loose, d1, d2, d3, d4, d5, d6, d7, Works, Pile, upon}
-use Rattle.invariant.specs.Keep.{upon′}
-use Rattle.invariant.specs.Below.{listed-below, listed-lower}
-use Rattle.invariant.specs.Turn.{view, StandIn, frontOf, Turn, Ok, goes-on, has-ended, ownIn, HereIn, PileIn}
-use Rattle.invariant.specs.Enter.{e1-ok, e2-ok, e3-ok, e4-ok, e5-ok, e6-ok}
-use Rattle.invariant.specs.Append.{e7-ok, e8-ok, e9-ok, e10-ok, e11-ok, e12-ok}
-use Rattle.invariant.specs.Search.{e13-ok, e14-ok, e15-ok, e16-ok}
-use Rattle.invariant.specs.Insert.{e17-ok, e18-ok, e19-ok, e20-ok, e21-ok, e22-ok, e23-ok, e24-ok, e25-ok, e26-ok}
-use Rattle.invariant.specs.Insert.{e27-ok}
-use Rattle.invariant.specs.Leave.{e28-ok, e29-ok, d1-ok, d2-ok, d3-ok, d3-goes-on, d4-ok, d5-ok, d6-ok, d7-ok}
-use Rattle.invariant.specs.Own.{own-le, own-zero, own-user, own-freed}
-use Rattle.invariant.specs.Words.{within, unknown}
-use Rattle.invariant.specs.Levels.{each, same-frames, raise}
-use Rattle.invariant.specs.Sound.{Sound}
+use Rattle.invariant.proofs.Keep.{upon′}
+use Rattle.invariant.proofs.Below.{listed-below, listed-lower}
+use Rattle.invariant.proofs.Turn.{Turn, Ok, goes-on, has-ended}
+use Rattle.invariant.specs.Sound.{view, StandIn, frontOf, ownIn, HereIn, PileIn, Stepping, Sound}
+use Rattle.invariant.proofs.Enter.{e1-ok, e2-ok, e3-ok, e4-ok, e5-ok, e6-ok}
+use Rattle.invariant.proofs.Append.{e7-ok, e8-ok, e9-ok, e10-ok, e11-ok, e12-ok}
+use Rattle.invariant.proofs.Search.{e13-ok, e14-ok, e15-ok, e16-ok}
+use Rattle.invariant.proofs.Insert.{e17-ok, e18-ok, e19-ok, e20-ok, e21-ok, e22-ok, e23-ok, e24-ok, e25-ok, e26-ok}
+use Rattle.invariant.proofs.Insert.{e27-ok}
+use Rattle.invariant.proofs.Leave.{e28-ok, e29-ok, d1-ok, d2-ok, d3-ok, d3-goes-on, d4-ok, d5-ok, d6-ok, d7-ok}
+use Rattle.invariant.proofs.Own.{own-le, own-zero, own-user, own-freed}
+use Rattle.invariant.proofs.Words.{within, unknown}
+use Rattle.invariant.proofs.Levels.{each, same-frames, raise}
 
 -- ---- the step, point by point
 
@@ -298,18 +298,6 @@ early D5 (is-loose z (d5 e i r)) o = absurd (omega arith)
 early D6 (is-loose z (d6 e i)) o = absurd (omega arith)
 early D7 (is-loose z (d7 e i)) o = absurd (omega arith)
 early Unknown h o = omega arith
-
--- the frame is one that a step accepts, its access is within the table and the queue, the invariant is kept, what was frozen in
--- front stays so,
--- and D3 does not end a dequeue
-pub record Stepping (s : Sizes) (q : ℕ) (W : State) (l : ℕ) (front : List ℕ) : Type 0 where
-  pub op : W .frames l .op ≤ 2
-  pub point : W .frames l .op ≡ 1 → W .frames l .point < 31
-  pub within : Within s q W (rowOf (s .levels) l (W .frames l))
-  pub front′ : List ℕ
-  pub sound : Sound s q (stepped (s .levels) l W) front′
-  pub begins : Beginning front (outOf (rowOf (s .levels) l (W .frames l)) ++ front′)
-  pub linked : W .frames l .point ≡ numberOf D3 → W .mem .next (W .frames l .c .0) ≢ 0
 
 pub sound-step : (s : Sizes) (q : ℕ) (W : State) (front : List ℕ) → Sound s q W front → (l : ℕ) → l < s .levels
     → On q (W .frames l)

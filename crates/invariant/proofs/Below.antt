@@ -10,14 +10,15 @@ use lib.Dec.{eqb}
 use Rattle.lists.specs.Count.{Same, same, apart, same?, cnt, cnt-nil, cnt-self, counts}
 use Rattle.state.specs.Mem.{put, put-same, put-other}
 use Rattle.table.specs.Points.{Point}
-use Rattle.chains.specs.Member.{either, differ}
-use Rattle.chains.specs.Seg.{Seg, Walk, on, out, walk}
+use Rattle.chains.proofs.Members.{either, differ}
+use Rattle.chains.specs.Seg.{Seg}
+use Rattle.chains.proofs.Links.{Walk, on, out, walk}
 use Rattle.invariant.specs.Ghost.{loose, owner, mark, Stack, floor, push, lists, flight, leaving, follow, origin}
 use Rattle.invariant.specs.Ghost.{start, Listed}
 use Rattle.invariant.specs.Facts.{Regs, View, Hot, Loose, d7, e1, e2, e28-off, e29, d1, d2, d3, d4, d5, d6, Highest}
 use Rattle.invariant.specs.Facts.{Cut, Linked, e10, e11, e12, e19, e20, e23, e24, e25, e26, e27, e28, is-loose}
 use Rattle.invariant.specs.Facts.{is-done, is-owner, is-mark, Works, Pile, bottom, upon}
-use Rattle.invariant.specs.Keep.{upon′, keep-all, the-same}
+use Rattle.invariant.proofs.Keep.{upon′, keep-all, the-same}
 
 -- ---- levels
 

@@ -12,14 +12,16 @@ use Rattle.state.specs.Mem.{put-same}
 use Rattle.table.specs.Points.{E17, E18, E19, E20, E21, E22, E23, E24, E25, E26, E27, E28}
 use Rattle.table.specs.Laws.{point-is}
 use Rattle.table.specs.Table.{row}
-use Rattle.chains.specs.Member.{Last, last-in, differ, place}
-use Rattle.chains.specs.Seg.{Seg, stop, seg-split, seg-nil, seg-rest}
+use Rattle.chains.specs.Member.{Last}
+use Rattle.chains.proofs.Members.{last-in, differ, place}
+use Rattle.chains.specs.Seg.{Seg, stop}
+use Rattle.chains.proofs.Links.{seg-split, seg-nil, seg-rest}
 use Rattle.invariant.specs.Ghost.{owner, mark, origin}
 use Rattle.invariant.specs.Facts.{behind, before, e17, e18, e21, e22, e19, e20, e23, e24, e25, e26, e27, e28, is-owner}
 use Rattle.invariant.specs.Facts.{is-mark, is-done}
-use Rattle.invariant.specs.Below.{tail-in}
-use Rattle.invariant.specs.Turn.{Turn, goes-on, by-eq, Case, stay, to, below-ln}
-use Rattle.invariant.specs.Rules.{along, hang, close, move-on, settle}
+use Rattle.invariant.proofs.Below.{tail-in}
+use Rattle.invariant.proofs.Turn.{Turn, goes-on, by-eq, Case, stay, to, below-ln}
+use Rattle.invariant.proofs.Rules.{along, hang, close, move-on, settle}
 
 -- the last of a stretch points to what follows it
 last-next : {f : ℕ → ℕ} {s t : ℕ} {xs : List ℕ} (c : ℕ) → Last c xs → Seg f s xs t → f c ≡ t

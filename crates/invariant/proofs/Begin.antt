@@ -20,10 +20,10 @@ use Rattle.table.specs.Laws.{point-is}
 use Rattle.table.specs.Frames.{frame}
 use Rattle.invariant.specs.Ghost.{loose, push, Listed}
 use Rattle.invariant.specs.Facts.{is-loose, e1, d1, Works}
-use Rattle.invariant.specs.Keep.{upon′}
-use Rattle.invariant.specs.Own.{own-begun}
-use Rattle.invariant.specs.Turn.{ownIn, HereIn}
-use Rattle.invariant.specs.Levels.{each, same-frames, sink}
+use Rattle.invariant.proofs.Keep.{upon′}
+use Rattle.invariant.proofs.Own.{own-begun}
+use Rattle.invariant.specs.Sound.{ownIn, HereIn}
+use Rattle.invariant.proofs.Levels.{each, same-frames, sink}
 use Rattle.invariant.specs.Sound.{Sound}
 
 -- a frame that begins: op, point, queue and node, its other words 0
