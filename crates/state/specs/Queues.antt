@@ -1,8 +1,8 @@
 -- What belongs to one queue: its frames, its nodes, its words; and what it means that nothing of it moved.
 use Prim.Native.Nat.{ℕ, _≤_, _<_}
-use mathlib.Core.Path.{_≡_, refl, sym, ap, _∙_}
-use mathlib.Core.Logic.{_≢_, _⊎_, inl, inr}
-use mathlib.Core.Bool.{Bool, true, false, cond}
+use mathlib.Core.Path.{_≡_}
+use mathlib.Core.Logic.{_≢_, _⊎_}
+use mathlib.Core.Bool.{cond}
 use mathlib.Core.List.{List, [], _∷_}
 use lib.Dec.{ltb, eqb}
 use Rattle.words.specs.declared.Node.{Node}
@@ -14,7 +14,6 @@ use Rattle.words.specs.Laws.{Bound}
 use Rattle.table.specs.declared.After.{After}
 use Rattle.table.specs.Table.{Row, loads, stores, frees, nothing}
 use Rattle.lists.specs.Count.{hit}
-use Rattle.state.specs.Mem.{Mem}
 use Rattle.state.specs.Step.{State}
 
 -- a frame that works on queue q

@@ -2,21 +2,21 @@
 use Prim.Native.Nat.{ℕ, _≤_, _<_}
 use mathlib.Core.Path.{_≡_, refl, sym, ap, _∙_, fun-ext}
 use mathlib.Core.Logic.{_≢_}
-use mathlib.Core.Bool.{Bool, true, false, cond}
+use mathlib.Core.Bool.{Bool, true, false, cond, _&&_}
 use mathlib.Core.List.{List}
 use native.Mathlib.Omega.{arith}
-use lib.Dec.{eqb, ltb}
+use lib.Dec.{eqb, ltb, leb}
 use lib.ListN.{length}
-use borrow.Author.Tests.{ltb-true, ltb-false, lt-ltb}
+use borrow.Author.Tests.{ltb-true, ltb-false, lt-ltb, lt-leb}
 use Rattle.words.specs.declared.Level.{Level}
 use Rattle.words.specs.declared.Sizes.{Sizes}
 use Rattle.words.specs.declared.Frame.{Frame}
 use Rattle.words.specs.declared.Word.{Word}
 use Rattle.words.specs.declared.Word.the-variants.{LevelNode, LevelQueue, Head, Tail, Next, Use}
-use Rattle.words.specs.Layout.{level, queue, node, words, has, rd, wr, frameOf, putFrame, noFrame}
+use Rattle.words.specs.Layout.{level, queue, node, words, within, has, rd, wr, frameOf, putFrame, noFrame}
 use Rattle.words.specs.Laws.{rd-same, rd-other, rd-put, frame-wr, frame-same, frame-other}
 use Rattle.lists.specs.Count.{Same, same, apart, same?}
-use Rattle.state.specs.Mem.{Mem, look, put, put-same, put-other, upd}
+use Rattle.state.specs.Mem.{Mem, look, put, upd}
 
 -- a word's value, 0 where the table has no such word
 unfoldable pub seen : Sizes → List ℕ → Word → ℕ
@@ -86,6 +86,39 @@ frame-idle s t l h = by (ltb l (s .levels)) refl
     by : (b : Bool) → ltb l (s .levels) ≡ b → cond b (frameOf s t (level l)) noFrame .op ≡ 0
     by true e = h (ltb-true l (s .levels) e)
     by false e = refl
+
+-- a node that is none of the table's is no queue's
+pub uses-past : (s : Sizes) (t : List ℕ) (n : ℕ) → s .nodes < n → memory s t .uses n ≡ 0
+unfolding memory seen has within
+uses-past s t n h = by (leb 1 n) (leb n (s .nodes)) (lt-leb n (s .nodes) h)
+  where
+    by : (a b : Bool) → b ≡ false → cond (a && b) (rd s t (useOf n)) 0 ≡ 0
+    by true false e = refl
+    by false b e = refl
+    by true true e = let z : _≡_ {A = ℕ} 0 1 = cc in absurd (omega arith)
+
+-- tables with the same words are the same memory
+pub memory-same : (s : Sizes) (u t : List ℕ) → ((w : Word) → has s w ≡ true → rd s u w ≡ rd s t w) → memory s u ≡ memory s t
+unfolding memory seen
+memory-same s u t h =
+    λ i. record {
+      ln = kept levelNode i;
+      lq = kept levelQueue i;
+      head = kept headOf i;
+      tail = kept tailOf i;
+      next = kept nextOf i;
+      uses = kept useOf i;
+    }
+  where
+    one : (w : Word) → seen s u w ≡ seen s t w
+    one w = by (has s w) refl
+      where
+        by : (b : Bool) → has s w ≡ b → cond b (rd s u w) 0 ≡ cond b (rd s t w) 0
+        by true k = h w k
+        by false k = refl
+
+    kept : (mk : ℕ → Word) → column s u mk ≡ column s t mk
+    kept mk = fun-ext (λ i. one (mk i))
 
 -- ---- writing a word
 
@@ -213,26 +246,7 @@ module _ (s : Sizes) (t : List ℕ) (room : words s ≤ length t) where
 
   -- a frame put leaves the memory
   pub memory-put : (l : Level) (g : Frame) → memory s (putFrame s t l g) ≡ memory s t
-  unfolding memory seen
-  memory-put l g =
-      λ i. record {
-        ln = kept levelNode i;
-        lq = kept levelQueue i;
-        head = kept headOf i;
-        tail = kept tailOf i;
-        next = kept nextOf i;
-        uses = kept useOf i;
-      }
-    where
-      one : (w : Word) → seen s (putFrame s t l g) w ≡ seen s t w
-      one w = by (has s w) refl
-        where
-          by : (b : Bool) → has s w ≡ b → cond b (rd s (putFrame s t l g) w) 0 ≡ cond b (rd s t w) 0
-          by true k = rd-put s t l g w k
-          by false k = refl
-
-      kept : (mk : ℕ → Word) → column s (putFrame s t l g) mk ≡ column s t mk
-      kept mk = fun-ext (λ i. one (mk i))
+  memory-put l g = memory-same s (putFrame s t l g) t (rd-put s t l g)
 
   -- and is the level's frame from there on
   pub frames-put : (l : Level) → l .0 < s .levels → (g : Frame) → frames s (putFrame s t l g) ≡ put (frames s t) (l .0) g

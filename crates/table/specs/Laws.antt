@@ -7,93 +7,51 @@ use lib.Dec.{eqb}
 use borrow.Author.Tests.{eq-eqb, ne-eqb}
 use Rattle.table.specs.declared.After.{After}
 use Rattle.table.specs.Frames.{ifEq}
-use Rattle.table.specs.Points.{
-  Point,
-  E1,
-  E2,
-  E3,
-  E4,
-  E5,
-  E6,
-  E7,
-  E8,
-  E9,
-  E10,
-  E11,
-  E12,
-  E13,
-  E14,
-  E15,
-  E16,
-  E17,
-  E18,
-  E19,
-  E20,
-  E21,
-  E22,
-  E23,
-  E24,
-  E25,
-  E26,
-  E27,
-  E28,
-  E29,
-  D1,
-  D2,
-  D3,
-  D4,
-  D5,
-  D6,
-  D7,
-  Unknown,
-  numberOf,
-  points,
-  pointIn,
-  pointOf,
-}
+use Rattle.table.specs.Points as point
+use Rattle.table.specs.Points.{Point, Unknown, numberOf, points, pointIn, pointOf}
 
 -- a point's number stands for it
 back : (x : Point) → pointOf (numberOf x) ≡ x
 unfolding pointOf
 back =
     elim [
-      | E1 ↦ refl
-      | E2 ↦ refl
-      | E3 ↦ refl
-      | E4 ↦ refl
-      | E5 ↦ refl
-      | E6 ↦ refl
-      | E7 ↦ refl
-      | E8 ↦ refl
-      | E9 ↦ refl
-      | E10 ↦ refl
-      | E11 ↦ refl
-      | E12 ↦ refl
-      | E13 ↦ refl
-      | E14 ↦ refl
-      | E15 ↦ refl
-      | E16 ↦ refl
-      | E17 ↦ refl
-      | E18 ↦ refl
-      | E19 ↦ refl
-      | E20 ↦ refl
-      | E21 ↦ refl
-      | E22 ↦ refl
-      | E23 ↦ refl
-      | E24 ↦ refl
-      | E25 ↦ refl
-      | E26 ↦ refl
-      | E27 ↦ refl
-      | E28 ↦ refl
-      | E29 ↦ refl
-      | D1 ↦ refl
-      | D2 ↦ refl
-      | D3 ↦ refl
-      | D4 ↦ refl
-      | D5 ↦ refl
-      | D6 ↦ refl
-      | D7 ↦ refl
-      | Unknown ↦ refl
+      | point.E1 ↦ refl
+      | point.E2 ↦ refl
+      | point.E3 ↦ refl
+      | point.E4 ↦ refl
+      | point.E5 ↦ refl
+      | point.E6 ↦ refl
+      | point.E7 ↦ refl
+      | point.E8 ↦ refl
+      | point.E9 ↦ refl
+      | point.E10 ↦ refl
+      | point.E11 ↦ refl
+      | point.E12 ↦ refl
+      | point.E13 ↦ refl
+      | point.E14 ↦ refl
+      | point.E15 ↦ refl
+      | point.E16 ↦ refl
+      | point.E17 ↦ refl
+      | point.E18 ↦ refl
+      | point.E19 ↦ refl
+      | point.E20 ↦ refl
+      | point.E21 ↦ refl
+      | point.E22 ↦ refl
+      | point.E23 ↦ refl
+      | point.E24 ↦ refl
+      | point.E25 ↦ refl
+      | point.E26 ↦ refl
+      | point.E27 ↦ refl
+      | point.E28 ↦ refl
+      | point.E29 ↦ refl
+      | point.D1 ↦ refl
+      | point.D2 ↦ refl
+      | point.D3 ↦ refl
+      | point.D4 ↦ refl
+      | point.D5 ↦ refl
+      | point.D6 ↦ refl
+      | point.D7 ↦ refl
+      | point.Unknown ↦ refl
     ]
 
 pub point-is : (x : Point) (n : ℕ) → n ≡ numberOf x → pointOf n ≡ x

@@ -1,0 +1,2 @@
+pub mod Conditions
+pub mod Laws

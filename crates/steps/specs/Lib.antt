@@ -1,0 +1,3 @@
+pub mod Step
+pub mod Run
+pub mod Laws

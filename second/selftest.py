@@ -1,0 +1,68 @@
+#!/usr/bin/env python3
+"""Holds second/bench.py to the worked runs, and examples/README.md to second/bench.py.
+
+    second/selftest.py
+"""
+
+import os
+import re
+import sys
+
+from bench import log_of
+
+HERE = os.path.dirname(os.path.abspath(__file__))
+
+# The worked runs, for L 2, Q 1, N 4: events, and the log they give.
+RUNS = [
+    ("enqueue-alone-level-0", "E 0 1 2, S 10", "E 0 1 2 10, Q 1 2"),
+    ("enqueue-alone-level-1", "E 1 1 2, S 11", "E 1 1 2 11, Q 1 2"),
+    ("dequeue-on-fresh", "D 0 1, S 2", "D 0 1 0 2, Q 1"),
+    ("dequeue-after-2-went-in", "E 0 1 2, S 10, D 0 1, S 22", "E 0 1 2 10, D 0 1 2 22, Q 1"),
+    ("program-case", "E 0 1 2, S 4, E 1 1 3, S 13, E 1 1 4, S 21", "E 1 1 3 13, E 1 1 4 13, E 0 1 2 12, Q 1 2 4 3"),
+    ("stopped-after-6-steps", "E 0 1 2, S 6, E 1 1 3, S 16, S 4", "E 1 1 3 16, E 0 1 2 10, Q 1 3 2"),
+    ("dequeue-in-between", "E 0 1 2, S 6, E 1 1 3, S 16, D 1 1, S 28, D 1 1, S 2, S 4",
+     "E 1 1 3 16, D 1 1 3 28, D 1 1 0 2, E 0 1 2 10, Q 1 2"),
+    ("stopped-after-8-steps", "E 0 1 2, S 8, E 1 1 3, S 14, S 2", "E 1 1 3 14, E 0 1 2 10, Q 1 2 3"),
+    ("the-21-step-empty", "E 0 1 2, S 10, E 0 1 3, S 4, D 1 1, S 21, S 7", "E 0 1 2 10, D 1 1 0 21, E 0 1 3 11, Q 1 2 3"),
+    ("node-1-enqueued", "E 0 1 1", "R 1 5, Q 1"),
+    ("level-0-while-level-1-runs", "E 1 1 2, E 0 1 3", "R 2 6, U 1"),
+    ("node-2-twice", "E 0 1 2, E 1 1 2", "R 2 7, U 1"),
+    ("dequeue-over-a-dequeue", "D 0 1, S 1, D 1 1", "R 3 8, U 1"),
+    ("no-steps", "S 0", "T 6"),
+    ("leading-zero", "E 01 1 2", "T 6"),
+]
+
+
+def schedule(sizes, events):
+    """The text of a schedule: sizes 'L Q N', and the events with commas between them."""
+    lines = events.split(", ") if events else []
+    return "".join(line + "\n" for line in ["3", *sizes.split(" "), str(len(lines)), *lines]).encode()
+
+
+def examples():
+    """The name and the log of each example, as examples/README.md shows them."""
+    with open(HERE + "/../examples/README.md") as page:
+        return re.findall(r"^## ([a-z0-9-]+)\n.*?^```\n(.*?)^```$", page.read(), re.M | re.S)
+
+
+def differing():
+    for name, events, log in RUNS:
+        got = log_of(schedule("2 1 4", events)).decode()
+        if got != log.replace(", ", "\n") + "\n":
+            yield f"{name}: {got!r}"
+    shown = examples()
+    stored = [each[:-9] for each in os.listdir(HERE + "/../examples") if each.endswith(".schedule")]
+    if sorted(stored) != sorted(name for name, _ in shown):
+        yield "examples/README.md does not show each example once"
+    for name, log in shown:
+        with open(f"{HERE}/../examples/{name}.schedule", "rb") as text:
+            got = log_of(text.read()).decode()
+        if got != log:
+            yield f"examples/{name}.schedule: {got!r}"
+
+
+if __name__ == "__main__":
+    wrong = list(differing())
+    if wrong:
+        sys.exit("\n".join(wrong))
+    print(f"{len(RUNS)} worked runs and {len(examples())} examples agree")
