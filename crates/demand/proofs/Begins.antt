@@ -28,7 +28,7 @@ use Rattle.lists.specs.Beginning.{begins-same}
 use Rattle.state.specs.Mem.{Mem, put, upd}
 use Rattle.state.specs.View.{memory, frames, look-rd, frame-is, frame-idle, memory-wr, frames-wr, memory-put, frames-put}
 use Rattle.state.specs.Queues.{own}
-use Rattle.invariant.specs.Own.{own-begun}
+use Rattle.invariant.proofs.Own.{own-begun}
 use Rattle.demand.proofs.Apart.{own-put}
 use Rattle.demand.proofs.World.{World, IdleFrom, enqueueBegun, world-enqueue, world-dequeue}
 use Rattle.demand.proofs.Bridge.{stateOf, has-is}

@@ -21,7 +21,8 @@ use Rattle.lists.specs.Beginning.{without, without-self}
 use Rattle.chains.specs.Seg.{stop, link}
 use Rattle.state.specs.View.{levelQueue, headOf, tailOf, nextOf, useOf, seen, memory, frames, frame-idle, uses-past}
 use Rattle.state.specs.Queues.{own}
-use Rattle.invariant.specs.Sound.{Sound, Chained, sound-start}
+use Rattle.invariant.specs.Sound.{Sound, Chained}
+use Rattle.invariant.proofs.Rest.{sound-start}
 use Rattle.demand.proofs.World.{World}
 use Rattle.demand.proofs.Bridge.{stateOf, has-is, same-said, no-answer}
 

@@ -26,8 +26,9 @@ use Rattle.lists.specs.Beginning.{without, cnt-without}
 use Rattle.chains.specs.Seg.{Seg, stop, link}
 use Rattle.state.specs.View.{memory, frames, look-rd, frame-is, frame-idle}
 use Rattle.state.specs.Queues.{On, own}
-use Rattle.invariant.specs.Own.{own-le}
-use Rattle.invariant.specs.Sound.{Sound, Chained, quiet as at-rest}
+use Rattle.invariant.proofs.Own.{own-le}
+use Rattle.invariant.specs.Sound.{Sound, Chained}
+use Rattle.invariant.proofs.Rest.{quiet as at-rest}
 use Rattle.demand.proofs.World.{World}
 use Rattle.demand.proofs.Bridge.{stateOf, has-is, other-number}
 use Rattle.demand.proofs.Begins.{none-of}

@@ -17,7 +17,8 @@ use Rattle.asks.specs.Listing.{before, chain}
 use Rattle.lists.specs.Count.{Same, same, apart, same?, cnt, cnt-nil, cnt-cons, cnt-self, counts}
 use Rattle.lists.specs.Beginning.{without, cnt-without}
 use Rattle.chains.specs.Member.{Last}
-use Rattle.chains.specs.Seg.{Seg, stop, link, seg-head, seg-rest, seg-nil}
+use Rattle.chains.specs.Seg.{Seg, stop, link}
+use Rattle.chains.proofs.Links.{seg-head, seg-rest, seg-nil}
 use Rattle.state.specs.Mem.{Mem}
 use Rattle.state.specs.View.{memory, look-rd}
 use Rattle.demand.proofs.Bridge.{has-is}

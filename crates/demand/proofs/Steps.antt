@@ -34,7 +34,7 @@ use Rattle.state.specs.View.{memory, frames, frame-is, frame-idle}
 use Rattle.state.specs.Queues.{On, own, Mine, Within, load, store, free, outOf}
 use Rattle.demand.proofs.World.{World, Moving, world-step}
 use Rattle.demand.proofs.Rows.{Plain, goes, empty, handed, Plainly, row-plain, number-D7}
-use Rattle.invariant.specs.Own.{own-freed}
+use Rattle.invariant.proofs.Own.{own-freed}
 use Rattle.demand.proofs.Apart.{own-use, own-put}
 use Rattle.demand.proofs.Bridge.{stateOf, saysOf, Bridged, performed-is}
 use Rattle.demand.proofs.Keeps.{Keeps}
