@@ -21,17 +21,17 @@ pub quiet : (s : Sizes) (q : ℕ) (W : State) (front : List ℕ) → Sound s q W
     → Chained s q W front
 quiet s q W front d h = by (d .stack) (d .done) (d .pile) (d .stand) (d .front-is)
   where
-    M : List ℕ
-    M = d .settled
+    S : List ℕ
+    S = d .settled
 
-    by : (st : Stack) (b : Bool) → PileIn s q W M (s .levels) st b → StandIn s q W M (d .hot) st
-        → front ≡ frontOf q (W .mem) M st → Chained s q W front
+    by : (st : Stack) (b : Bool) → PileIn s q W S (s .levels) st b → StandIn s q W S (d .hot) st
+        → front ≡ frontOf q (W .mem) S st → Chained s q W front
     by _ _ bottom t e =
         let w : d .hot ≡ W .mem .tail q ∷ [] = t .hot .begins ∙ ap (λ y. W .mem .tail q ∷ y) (t .hot .alone refl refl) in
         record {
-          nodes = M ++ W .mem .tail q ∷ [];
+          nodes = S ++ W .mem .tail q ∷ [];
           linked = seg-join (t .settled) (rw w at (t .hot .linked));
-          ends = (M, refl);
+          ends = (S, refl);
           once = λ y. simp counts (omega (arith, simp (w, counts) at (t .all y)));
           front-is = e;
         }
