@@ -4,18 +4,15 @@ use mathlib.Core.Path.{_≡_, refl, ap, _∙_}
 use mathlib.Core.Logic.{_≢_}
 use mathlib.Core.Bool.{Bool, false}
 use mathlib.Core.List.{List, [], _∷_, _++_}
+use native.Mathlib.Omega.{arith}
 use Rattle.words.specs.declared.Sizes.{Sizes}
-use Rattle.lists.specs.Count.{cnt}
+use Rattle.lists.specs.Count.{cnt, counts}
 use Rattle.lists.specs.Beginning.{without}
 use Rattle.state.specs.Step.{State}
 use Rattle.state.specs.Queues.{On}
-use Rattle.chains.specs.Seg.{Seg}
-use Rattle.invariant.specs.Ghost.{Stack}
-use native.Mathlib.Omega.{arith}
-use Rattle.lists.specs.Count.{counts}
-use Rattle.chains.specs.Seg.{stop, link}
+use Rattle.chains.specs.Seg.{Seg, stop, link}
 use Rattle.chains.proofs.Links.{seg-split, seg-join, seg-head, seg-rest, seg-nil}
-use Rattle.invariant.specs.Ghost.{floor}
+use Rattle.invariant.specs.Ghost.{Stack, floor}
 use Rattle.invariant.specs.Facts.{bottom, upon}
 use Rattle.invariant.specs.Sound.{StandIn, frontOf, PileIn, Sound, Chained}
 use Rattle.invariant.proofs.Own.{own-in}
@@ -24,17 +21,17 @@ pub quiet : (s : Sizes) (q : ℕ) (W : State) (front : List ℕ) → Sound s q W
     → Chained s q W front
 quiet s q W front d h = by (d .stack) (d .done) (d .pile) (d .stand) (d .front-is)
   where
-    M : List ℕ
-    M = d .settled
+    S : List ℕ
+    S = d .settled
 
-    by : (st : Stack) (b : Bool) → PileIn s q W M (s .levels) st b → StandIn s q W M (d .hot) st
-        → front ≡ frontOf q (W .mem) M st → Chained s q W front
+    by : (st : Stack) (b : Bool) → PileIn s q W S (s .levels) st b → StandIn s q W S (d .hot) st
+        → front ≡ frontOf q (W .mem) S st → Chained s q W front
     by _ _ bottom t e =
         let w : d .hot ≡ W .mem .tail q ∷ [] = t .hot .begins ∙ ap (λ y. W .mem .tail q ∷ y) (t .hot .alone refl refl) in
         record {
-          nodes = M ++ W .mem .tail q ∷ [];
+          nodes = S ++ W .mem .tail q ∷ [];
           linked = seg-join (t .settled) (rw w at (t .hot .linked));
-          ends = (M, refl);
+          ends = (S, refl);
           once = λ y. simp counts (omega (arith, simp (w, counts) at (t .all y)));
           front-is = e;
         }

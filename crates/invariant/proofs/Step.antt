@@ -1,8 +1,8 @@
 -- A step of the highest frame keeps the invariant of the queue that it is on.
 use Prim.Native.Nat.{ℕ, _+_, _≤_, _<_}
 use mathlib.Core.Path.{_≡_, refl, sym, ap, _∙_}
-use mathlib.Core.Logic.{_≢_, _⊎_, inl, inr}
-use mathlib.Core.Bool.{Bool, true, false, cond}
+use mathlib.Core.Logic.{_≢_, inl, inr}
+use mathlib.Core.Bool.{Bool, true, false}
 use mathlib.Core.List.{List, [], _∷_, _++_}
 use native.Mathlib.Omega.{arith}
 use lib.Dec.{eqb}
@@ -15,19 +15,19 @@ use Rattle.lists.specs.Beginning.{Beginning}
 use Rattle.state.specs.Mem.{Mem, put, put-same, put-other}
 use Rattle.state.specs.Step.{State, memAfter, then, frameAfter, rowOf, stepped}
 use Rattle.state.specs.Queues.{On, own, Within, load, store, free, outOf}
-use Rattle.table.specs.Points.{Point, points, pointIn, pointOf, numberOf, E1, E2, E3, E4, E5, E6, E7, E8, E9, E10, E11, E12}
-use Rattle.table.specs.Points.{E13, E14, E15, E16, E17, E18, E19, E20, E21, E22, E23, E24, E25, E26, E27, E28, E29, D1, D2}
-use Rattle.table.specs.Points.{D3, D4, D5, D6, D7, Unknown}
+use Rattle.table.specs.Points.{Point, pointOf, numberOf, E1, E2, E3, E4, E5, E6, E7, E8, E9, E10, E11, E12, E13, E14, E15}
+use Rattle.table.specs.Points.{E16, E17, E18, E19, E20, E21, E22, E23, E24, E25, E26, E27, E28, E29, D1, D2, D3, D4, D5}
+use Rattle.table.specs.Points.{D6, D7, Unknown}
 use Rattle.table.specs.Laws.{point-is}
 use Rattle.table.specs.Frames.{counted}
 use Rattle.table.specs.Table.{Row, row}
 use Rattle.table.specs.declared.After.{After}
 use Rattle.invariant.specs.Ghost.{Item, Stack, push, Listed}
-use Rattle.invariant.specs.Facts.{Regs, regs, View, Here, is-loose, d1, d2, d3, d4, d5, d6, d7, Works, Pile, upon}
+use Rattle.invariant.specs.Facts.{regs, View, Here, is-loose, d7, Works, Pile, upon}
+use Rattle.invariant.specs.Sound.{view, StandIn, frontOf, ownIn, HereIn, PileIn, Stepping, Sound}
 use Rattle.invariant.proofs.Keep.{upon′}
 use Rattle.invariant.proofs.Below.{listed-below, listed-lower}
 use Rattle.invariant.proofs.Turn.{Turn, Ok, goes-on, has-ended}
-use Rattle.invariant.specs.Sound.{view, StandIn, frontOf, ownIn, HereIn, PileIn, Stepping, Sound}
 use Rattle.invariant.proofs.Enter.{e1-ok, e2-ok, e3-ok, e4-ok, e5-ok, e6-ok}
 use Rattle.invariant.proofs.Append.{e7-ok, e8-ok, e9-ok, e10-ok, e11-ok, e12-ok}
 use Rattle.invariant.proofs.Search.{e13-ok, e14-ok, e15-ok, e16-ok}
@@ -35,7 +35,7 @@ use Rattle.invariant.proofs.Insert.{e17-ok, e18-ok, e19-ok, e20-ok, e21
 use Rattle.invariant.proofs.Insert.{e27-ok}
 use Rattle.invariant.proofs.Leave.{e28-ok, e29-ok, d1-ok, d2-ok, d3-ok, d3-goes-on, d4-ok, d5-ok, d6-ok, d7-ok}
 use Rattle.invariant.proofs.Own.{own-le, own-zero, own-user, own-freed}
-use Rattle.invariant.proofs.Words.{within, unknown}
+use Rattle.invariant.proofs.Words.{within, unknown, early}
 use Rattle.invariant.proofs.Levels.{each, same-frames, raise}
 
 -- ---- the step, point by point
@@ -241,63 +241,9 @@ module _ (s : Sizes) (q l : ℕ) (W : State) (st : Stack) (low : l < s .levels) 
 
 -- ---- the theorem
 
--- a known point has its own number
-number-in : (xs : List Point) (n : ℕ) → (pointIn xs n ≡ Unknown) ⊎ (n ≡ numberOf (pointIn xs n))
-number-in [] n = inl refl
-number-in (x ∷ xs) n = by (eqb n (numberOf x)) (same? n (numberOf x)) (number-in xs n)
-  where
-    by : (t : Bool) → Same n (numberOf x) t → (pointIn xs n ≡ Unknown) ⊎ (n ≡ numberOf (pointIn xs n))
-        → (cond t x (pointIn xs n) ≡ Unknown) ⊎ (n ≡ numberOf (cond t x (pointIn xs n)))
-    by true (same e) r = inr e
-    by false (apart e) r = r
-
-number-of : (n : ℕ) → (pointOf n ≡ Unknown) ⊎ (n ≡ numberOf (pointOf n))
-unfolding pointOf
-number-of n = number-in points n
-
+-- a beginning of the same list
 begins-from : {xs ys zs : List ℕ} → xs ≡ ys → Beginning ys zs → Beginning xs zs
 begins-from e b = (b .0, ap (λ y. y ++ b .0) e ∙ b .1)
-
--- an enqueue is at no D point
-early : {top q l : ℕ} {v : View} {g : Regs} {i : Item} {st : Stack} {b b′ : Bool} (p : Point) → Here top q v l g p i st b b′
-    → g .op ≡ 1 → numberOf p < 31
-early E1 h o = omega arith
-early E2 h o = omega arith
-early E3 h o = omega arith
-early E4 h o = omega arith
-early E5 h o = omega arith
-early E6 h o = omega arith
-early E7 h o = omega arith
-early E8 h o = omega arith
-early E9 h o = omega arith
-early E10 h o = omega arith
-early E11 h o = omega arith
-early E12 h o = omega arith
-early E13 h o = omega arith
-early E14 h o = omega arith
-early E15 h o = omega arith
-early E16 h o = omega arith
-early E17 h o = omega arith
-early E18 h o = omega arith
-early E19 h o = omega arith
-early E20 h o = omega arith
-early E21 h o = omega arith
-early E22 h o = omega arith
-early E23 h o = omega arith
-early E24 h o = omega arith
-early E25 h o = omega arith
-early E26 h o = omega arith
-early E27 h o = omega arith
-early E28 h o = omega arith
-early E29 h o = omega arith
-early D1 (is-loose z (d1 e)) o = absurd (omega arith)
-early D2 (is-loose z (d2 e i)) o = absurd (omega arith)
-early D3 (is-loose z (d3 e i)) o = absurd (omega arith)
-early D4 (is-loose z (d4 e i)) o = absurd (omega arith)
-early D5 (is-loose z (d5 e i r)) o = absurd (omega arith)
-early D6 (is-loose z (d6 e i)) o = absurd (omega arith)
-early D7 (is-loose z (d7 e i)) o = absurd (omega arith)
-early Unknown h o = omega arith
 
 pub sound-step : (s : Sizes) (q : ℕ) (W : State) (front : List ℕ) → Sound s q W front → (l : ℕ) → l < s .levels
     → On q (W .frames l)
@@ -324,8 +270,7 @@ sound-step s q W front d l low o idle =
           within = inside;
           front′ = k .front′;
           sound = k .sound;
-          begins =
-              begins-from e (k .begins);
+          begins = begins-from e (k .begins);
           linked = linked;
         }
       where
@@ -348,11 +293,7 @@ sound-step s q W front d l low o idle =
             (kept-at s q l W st low (d .low) works below alone (pointOf (f .point)) refl S (d .hot) i _ _ h p t)
 
         point : f .op ≡ 1 → f .point < 31
-        point op = at (number-of (f .point))
-          where
-            at : (pointOf (f .point) ≡ Unknown) ⊎ (f .point ≡ numberOf (pointOf (f .point))) → f .point < 31
-            at (inl u) = absurd (unknown (rw u at h))
-            at (inr u) = omega (arith, early (pointOf (f .point)) h op)
+        point = early (f .point) h
 
         linked : f .point ≡ numberOf D3 → W .mem .next (f .c .0) ≢ 0
         linked u = d3-goes-on (turn s q l W st low (d .low) works below alone) (rw (point-is D3 (f .point) u) at h) p t

@@ -3,33 +3,35 @@
 use Prim.Native.Nat.{ℕ, _+_, _≤_, _<_}
 use mathlib.Core.Path.{_≡_, refl, sym, _∙_}
 use mathlib.Core.Logic.{_≢_, _⊎_, inl, inr}
-use mathlib.Core.Bool.{Bool}
-use mathlib.Core.List.{List}
+use mathlib.Core.Bool.{true, false, cond, Bool}
+use mathlib.Core.List.{List, [], _∷_}
 use native.Mathlib.Omega.{arith}
+use lib.Dec.{eqb}
 use Rattle.words.specs.declared.Sizes.{Sizes}
 use Rattle.words.specs.declared.Frame.{Frame}
 use Rattle.words.specs.Layout.{level}
 use Rattle.words.specs.Laws.{Bound}
-use Rattle.lists.specs.Count.{cnt, counts}
-use Rattle.state.specs.Step.{State}
-use Rattle.state.specs.Queues.{On, Within, load, store, free}
-use Rattle.table.specs.Points.{Point, E1, E2, E3, E4, E5, E6, E7, E8, E9, E10, E11, E12, E13, E14, E15, E16, E17, E18, E19}
-use Rattle.table.specs.Points.{E20, E21, E22, E23, E24, E25, E26, E27, E28, E29, D1, D2, D3, D4, D5, D6, D7, Unknown}
-use Rattle.table.specs.Table.{row, loads, stores}
-use Rattle.table.specs.declared.After.{After}
 use Rattle.words.specs.declared.Node.{Node}
 use Rattle.words.specs.declared.Word.the-variants.{Next, LevelQueue}
 use Rattle.words.specs.declared.Word.{Word}
 use Rattle.words.specs.declared.Level.{Level}
+use Rattle.lists.specs.Count.{Same, same, apart, same?, cnt, counts}
+use Rattle.state.specs.Step.{State}
+use Rattle.state.specs.Queues.{On, Within, load, store, free}
+use Rattle.table.specs.Points.{points, pointIn, pointOf, numberOf, Point, E1, E2, E3, E4, E5, E6, E7, E8, E9, E10, E11}
+use Rattle.table.specs.Points.{E12, E13, E14, E15, E16, E17, E18, E19, E20, E21, E22, E23, E24, E25, E26, E27, E28, E29}
+use Rattle.table.specs.Points.{D1, D2, D3, D4, D5, D6, D7, Unknown}
+use Rattle.table.specs.Table.{row, loads, stores}
+use Rattle.table.specs.declared.After.{After}
 use Rattle.chains.proofs.Members.{last-in}
 use Rattle.invariant.specs.Ghost.{Item, Stack, push, lists, flight, follow, origin, start}
-use Rattle.invariant.specs.Facts.{Regs, View, Hot, Loose, Unlinked, Linked, Here, is-loose, is-owner, is-mark, Pile}
-use Rattle.invariant.specs.Facts.{d3, d4, d6, d7, e3, e4, e6, e8, e9, e13, e14, e16, e17, e18, e21, e22, e10, e19, e20}
-use Rattle.invariant.specs.Facts.{e23, e24}
+use Rattle.invariant.specs.Facts.{d1, d2, d5, Regs, View, Hot, Loose, Unlinked, Linked, Here, is-loose, is-owner}
+use Rattle.invariant.specs.Facts.{is-mark, Pile, d3, d4, d6, d7, e3, e4, e6, e8, e9, e13, e14, e16, e17, e18, e21}
+use Rattle.invariant.specs.Facts.{e22, e10, e19, e20, e23, e24}
+use Rattle.invariant.specs.Sound.{StandIn, ownIn, HereIn, PileIn}
 use Rattle.invariant.proofs.Own.{own-le, own-user}
 use Rattle.invariant.proofs.Keep.{aim-first}
 use Rattle.invariant.proofs.Below.{hot-start, nobody}
-use Rattle.invariant.specs.Sound.{StandIn, ownIn, HereIn, PileIn}
 
 -- ---- no operation stands at an unknown point
 
@@ -49,6 +51,70 @@ pub unknown : {top q l : ℕ} {v : View} {g : Regs} {i : Item} {st : Stack} {b b
 unknown (is-loose z t) = no-loose t
 unknown (is-owner z n t u) = no-unlinked u
 unknown (is-mark z n t) = no-linked t
+
+-- ---- an enqueue is at no D point
+
+-- a known point has its own number
+number-in : (xs : List Point) (n : ℕ) → (pointIn xs n ≡ Unknown) ⊎ (n ≡ numberOf (pointIn xs n))
+number-in [] n = inl refl
+number-in (x ∷ xs) n = by (eqb n (numberOf x)) (same? n (numberOf x)) (number-in xs n)
+  where
+    by : (t : Bool) → Same n (numberOf x) t → (pointIn xs n ≡ Unknown) ⊎ (n ≡ numberOf (pointIn xs n))
+        → (cond t x (pointIn xs n) ≡ Unknown) ⊎ (n ≡ numberOf (cond t x (pointIn xs n)))
+    by true (same e) r = inr e
+    by false (apart e) r = r
+
+number-of : (n : ℕ) → (pointOf n ≡ Unknown) ⊎ (n ≡ numberOf (pointOf n))
+unfolding pointOf
+number-of n = number-in points n
+
+early-at : {top q l : ℕ} {v : View} {g : Regs} {i : Item} {st : Stack} {b b′ : Bool} (p : Point) → Here top q v l g p i st b b′
+    → g .op ≡ 1 → numberOf p < 31
+early-at E1 h o = omega arith
+early-at E2 h o = omega arith
+early-at E3 h o = omega arith
+early-at E4 h o = omega arith
+early-at E5 h o = omega arith
+early-at E6 h o = omega arith
+early-at E7 h o = omega arith
+early-at E8 h o = omega arith
+early-at E9 h o = omega arith
+early-at E10 h o = omega arith
+early-at E11 h o = omega arith
+early-at E12 h o = omega arith
+early-at E13 h o = omega arith
+early-at E14 h o = omega arith
+early-at E15 h o = omega arith
+early-at E16 h o = omega arith
+early-at E17 h o = omega arith
+early-at E18 h o = omega arith
+early-at E19 h o = omega arith
+early-at E20 h o = omega arith
+early-at E21 h o = omega arith
+early-at E22 h o = omega arith
+early-at E23 h o = omega arith
+early-at E24 h o = omega arith
+early-at E25 h o = omega arith
+early-at E26 h o = omega arith
+early-at E27 h o = omega arith
+early-at E28 h o = omega arith
+early-at E29 h o = omega arith
+early-at D1 (is-loose z (d1 e)) o = absurd (omega arith)
+early-at D2 (is-loose z (d2 e i)) o = absurd (omega arith)
+early-at D3 (is-loose z (d3 e i)) o = absurd (omega arith)
+early-at D4 (is-loose z (d4 e i)) o = absurd (omega arith)
+early-at D5 (is-loose z (d5 e i r)) o = absurd (omega arith)
+early-at D6 (is-loose z (d6 e i)) o = absurd (omega arith)
+early-at D7 (is-loose z (d7 e i)) o = absurd (omega arith)
+early-at Unknown h o = omega arith
+
+pub early : {top q l : ℕ} {v : View} {g : Regs} {i : Item} {st : Stack} {b b′ : Bool} (n : ℕ) → Here top q v l g (pointOf n) i st b b′
+    → g .op ≡ 1 → n < 31
+early n h o = by (number-of n)
+  where
+    by : (pointOf n ≡ Unknown) ⊎ (n ≡ numberOf (pointOf n)) → n < 31
+    by (inl e) = absurd (unknown (rw e at h))
+    by (inr e) = omega (arith, early-at (pointOf n) h o)
 
 -- with nobody registered below, tail is in the hot list
 tail-hot : {top q n c : ℕ} {v : View} {fr : ℕ → Frame} {st : Stack} {b : Bool} {x : List ℕ} → Pile top q v fr n st b
