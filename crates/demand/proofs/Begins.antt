@@ -15,7 +15,7 @@ use Rattle.words.specs.declared.Frame.{Frame}
 use Rattle.words.specs.declared.Measured.the-variants.{Sized}
 use Rattle.words.specs.declared.Word.the-variants.{Head, Use}
 use Rattle.words.specs.Layout.{level, queue, node, within, measured, has, rd, wr, frameOf, putFrame}
-use Rattle.words.specs.Laws.{Bound, bound, within-low, within-high, measured-wr, measured-put, measured-fits}
+use Rattle.words.specs.Laws.{Bound, bound, within-low, within-high, measured-wr, measured-put, measured-fits, has-is}
 use Rattle.answers.specs.Said.{Said, refused, says}
 use Rattle.table.specs.Points.{E1, D1}
 use Rattle.conditions.specs.declared.Sought.{Sought}
@@ -31,7 +31,7 @@ use Rattle.state.specs.Queues.{own}
 use Rattle.invariant.proofs.Own.{own-begun}
 use Rattle.demand.proofs.Apart.{own-put}
 use Rattle.demand.proofs.World.{World, IdleFrom, enqueueBegun, world-enqueue, world-dequeue}
-use Rattle.demand.proofs.Bridge.{stateOf, has-is}
+use Rattle.demand.proofs.Bridge.{stateOf}
 use Rattle.demand.proofs.Keeps.{Keeps}
 
 -- ---- conditions that do not hold
