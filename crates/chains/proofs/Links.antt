@@ -2,8 +2,8 @@
 use Prim.Native.Nat.{ℕ, _+_, _≤_, _<_}
 use mathlib.Core.Path.{_≡_, refl, sym, ap, _∙_}
 use mathlib.Core.List.{List, [], _∷_, _++_}
-use native.Mathlib.Omega.{arith}
 use mathlib.Core.Bool.{Bool, true, false}
+use native.Mathlib.Omega.{arith}
 use lib.Dec.{eqb}
 use Rattle.lists.specs.Count.{Same, same, apart, same?, hit, cnt, cnt-cons, cnt-nil, cnt-self, counts}
 use Rattle.state.specs.Mem.{put, put-same, put-other}
@@ -38,7 +38,7 @@ seg-head (link p e) = p
 pub seg-rest : {f : ℕ → ℕ} {s x : ℕ} {xs : List ℕ} {t : ℕ} → Seg f s (x ∷ xs) t → Seg f (f x) xs t
 seg-rest (link p e) = e
 
--- nothing lies between a pointer and itself but, where t is none of the nodes, nothing at all
+-- a stretch of no nodes
 pub seg-nil : {f : ℕ → ℕ} {s t : ℕ} → Seg f s [] t → s ≡ t
 seg-nil (stop e) = e
 

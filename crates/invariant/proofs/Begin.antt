@@ -20,11 +20,10 @@ use Rattle.table.specs.Laws.{point-is}
 use Rattle.table.specs.Frames.{frame}
 use Rattle.invariant.specs.Ghost.{loose, push, Listed}
 use Rattle.invariant.specs.Facts.{is-loose, e1, d1, Works}
+use Rattle.invariant.specs.Sound.{ownIn, HereIn, Sound}
 use Rattle.invariant.proofs.Keep.{upon′}
 use Rattle.invariant.proofs.Own.{own-begun}
-use Rattle.invariant.specs.Sound.{ownIn, HereIn}
 use Rattle.invariant.proofs.Levels.{each, same-frames, sink}
-use Rattle.invariant.specs.Sound.{Sound}
 
 -- a frame that begins: op, point, queue and node, its other words 0
 abbrev pub begins : ℕ → ℕ → ℕ → ℕ → Frame
@@ -52,8 +51,7 @@ module _ (s : Sizes) (q : ℕ) (W : State) (front : List ℕ) (d : Sound s q W f
 
     begun : Sound s q (record {
       mem = mem (W .mem .ln) (W .mem .lq) (W .mem .head) (W .mem .tail) (W .mem .next) uses;
-      frames =
-          put (W .frames) l g;
+      frames = put (W .frames) l g;
     }) front
     begun = record {
       settled = d .settled;
@@ -65,8 +63,7 @@ module _ (s : Sizes) (q : ℕ) (W : State) (front : List ℕ) (d : Sound s q W f
       stand = record {
         hot = d .stand .hot;
         settled = d .stand .settled;
-        all =
-            λ y. simp counts (omega (arith, d .stand .all y, more y));
+        all = λ y. simp counts (omega (arith, d .stand .all y, more y));
       };
       listed = each (W .frames) l (λ j f. On q f → Listed j (push l (loose ins []) (d .stack))) g (λ o. inl refl)
           (λ j n o. inr (d .listed j o));

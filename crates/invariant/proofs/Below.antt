@@ -5,8 +5,8 @@ use mathlib.Core.Logic.{_≢_, _⊎_, inl, inr}
 use mathlib.Core.Bool.{Bool, true, false}
 use mathlib.Core.List.{List, [], _∷_, _++_, append-nil}
 use native.Mathlib.Omega.{arith}
-use Rattle.words.specs.declared.Frame.{Frame}
 use lib.Dec.{eqb}
+use Rattle.words.specs.declared.Frame.{Frame}
 use Rattle.lists.specs.Count.{Same, same, apart, same?, cnt, cnt-nil, cnt-self, counts}
 use Rattle.state.specs.Mem.{put, put-same, put-other}
 use Rattle.table.specs.Points.{Point}

@@ -6,20 +6,20 @@ use mathlib.Core.Bool.{Bool, true, false}
 use mathlib.Core.List.{[], _∷_}
 use native.Mathlib.Omega.{arith}
 use lib.Dec.{eqb}
+use Rattle.words.specs.Layout.{level}
 use Rattle.lists.specs.Count.{Same, same, apart, same?, counts}
 use Rattle.state.specs.Mem.{put, put-same, put-other}
+use Rattle.state.specs.Step.{memAfter, then}
 use Rattle.table.specs.Points.{E1, E2, E3, E4, E5, E6, E7, E13, E15}
 use Rattle.table.specs.Frames.{belowKTo, belowMTo}
 use Rattle.table.specs.Table.{row}
 use Rattle.chains.specs.Seg.{stop, link}
 use Rattle.invariant.specs.Ghost.{loose, owner, push, follow, origin, start}
-use Rattle.invariant.specs.Facts.{e1, e2, Free, Aim, behind, before, NotPast, e3, e4, e5, e6, e7, e13, e15, is-loose}
-use Rattle.invariant.specs.Facts.{is-owner}
-use Rattle.invariant.proofs.Below.{hot-start, Shown, at-owner, at-mark, at-done, shown, taken-off}
-use Rattle.words.specs.Layout.{level}
-use Rattle.state.specs.Step.{memAfter, then}
-use Rattle.invariant.proofs.Turn.{Turn, Ok, by-eq, Case, to, below-ln, below-lq, Below, front}
+use Rattle.invariant.specs.Facts.{e1, e2, Free, Aim, behind, before, NotPast, e3, e4, e5, e6, e7, e13, e15}
+use Rattle.invariant.specs.Facts.{is-loose, is-owner}
 use Rattle.invariant.specs.Sound.{Stand}
+use Rattle.invariant.proofs.Below.{hot-start, Shown, at-owner, at-mark, at-done, shown, taken-off}
+use Rattle.invariant.proofs.Turn.{Turn, Ok, by-eq, Case, to, below-ln, below-lq, Below, front}
 
 -- k itself is not registered either
 free-down : {q k l : ℕ} {lq : ℕ → ℕ} → lq k ≢ q → Free lq q k l → (j : ℕ) → k ≤ j → j < l → lq j ≢ q

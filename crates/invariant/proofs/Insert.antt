@@ -17,8 +17,8 @@ use Rattle.chains.proofs.Members.{last-in, differ, place}
 use Rattle.chains.specs.Seg.{Seg, stop}
 use Rattle.chains.proofs.Links.{seg-split, seg-nil, seg-rest}
 use Rattle.invariant.specs.Ghost.{owner, mark, origin}
-use Rattle.invariant.specs.Facts.{behind, before, e17, e18, e21, e22, e19, e20, e23, e24, e25, e26, e27, e28, is-owner}
-use Rattle.invariant.specs.Facts.{is-mark, is-done}
+use Rattle.invariant.specs.Facts.{behind, before, e17, e18, e21, e22, e19, e20, e23, e24, e25, e26, e27, e28}
+use Rattle.invariant.specs.Facts.{is-owner, is-mark, is-done}
 use Rattle.invariant.proofs.Below.{tail-in}
 use Rattle.invariant.proofs.Turn.{Turn, goes-on, by-eq, Case, stay, to, below-ln}
 use Rattle.invariant.proofs.Rules.{along, hang, close, move-on, settle}

@@ -68,8 +68,7 @@ keep-highest {k = k} w h =
     record {
       below = h .below;
       registered = w .stays k (h .below) (h .registered);
-      free =
-          λ j a b. w .stays-off j b (h .free j a b);
+      free = λ j a b. w .stays-off j b (h .free j a b);
     }
 
 -- the first node of a chain is in its hot list
@@ -144,6 +143,8 @@ below-tail h (is-owner z e t u) r = inr (omega arith)
 below-tail h (is-mark z e t) (inr r) = inr r
 below-tail h (is-mark z e t) (inl r) = let c : _≡_ {A = ℕ} 0 1 = cc in absurd (omega arith)
 
+-- from v and fr to v′ and fr′ nothing moved of the levels below l that is the queue's, nor of the links of the nodes Z, among which
+-- are all those of the pile
 module _ {top q : ℕ} (v v′ : View) (fr fr′ : ℕ → Frame) (l : ℕ) (Z : List ℕ) (l≤ : l ≤ top)
     (fr= : (j : ℕ) → j < l → Works q (fr j) → fr′ j ≡ fr j) (ln= : (j : ℕ) → j < l → Works q (fr j) → v′ .ln j ≡ v .ln j)
     (levels : Steady q l (v .ln) (v′ .ln) (v .lq) (v′ .lq))
@@ -165,8 +166,7 @@ module _ {top q : ℕ} (v v′ : View) (fr fr′ : ℕ → Frame) (l : ℕ) (Z :
       let lower : Steady q j (v .ln) (v′ .ln) (v .lq) (v′ .lq) = record {
         shows = λ k i. levels .shows k (omega arith);
         stays = λ k i. levels .stays k (omega arith);
-        stays-off =
-            λ k i. levels .stays-off k (omega arith);
+        stays-off = λ k i. levels .stays-off k (omega arith);
       } in
       is-owner (levels .stays j h z) (ln= j h o ∙ e) (rw (sym tl) at (keep-hot nx t))
       (rw (sym tl) at (keep-unlinked lower nx refl t u))

@@ -23,10 +23,11 @@ use Rattle.chains.specs.Seg.{Seg, stop, link}
 use Rattle.chains.proofs.Links.{seg-put, seg-rest, Walk, on, out, walk}
 use Rattle.invariant.specs.Ghost.{Item, loose, lists, flight, leaving, origin}
 use Rattle.invariant.specs.Facts.{e1, e28-off, e29, d1, d2, d3, d4, d5, d6, d7, e28, is-loose, is-mark, is-done}
+use Rattle.invariant.specs.Sound.{view}
 use Rattle.invariant.proofs.Keep.{keep-all, keep-hot, no-dequeue}
 use Rattle.invariant.proofs.Below.{hot-start, tail-in, start-own, none-leaving}
-use Rattle.invariant.proofs.Turn.{Turn, Ok, goes-on, has-ended, by-eq, Case, to, below-ln, below-lq, below-next, At, Below, Lists, Left, front}
-use Rattle.invariant.specs.Sound.{view}
+use Rattle.invariant.proofs.Turn.{Turn, Ok, goes-on, has-ended, by-eq, Case, to, below-ln, below-lq, below-next}
+use Rattle.invariant.proofs.Turn.{At, Below, Lists, Left, front}
 use Rattle.invariant.proofs.Rules.{take-off}
 
 module _ (T : Turn) where
@@ -188,8 +189,7 @@ module _ (T : Turn) where
       (record {
         hot = t .hot;
         settled = t .settled;
-        all =
-            λ y. omega (arith, simp counts at (t .all y), simp counts at (less y));
+        all = λ y. omega (arith, simp counts at (t .all y), simp counts at (less y));
       })
       (rw (without-other (f .c .0) (leaving st ++ (S ++ M .tail q ∷ [])) e) (begins-same _))
     where

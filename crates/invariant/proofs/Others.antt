@@ -12,10 +12,9 @@ use Rattle.state.specs.Queues.{On, Apart, Alike, still, others}
 use Rattle.chains.proofs.Links.{seg-same}
 use Rattle.invariant.specs.Ghost.{lists, flight}
 use Rattle.invariant.specs.Facts.{Works}
+use Rattle.invariant.specs.Sound.{view, Sound}
 use Rattle.invariant.proofs.Keep.{keep, keep-hot, the-same}
 use Rattle.invariant.proofs.Own.{own-le}
-use Rattle.invariant.specs.Sound.{view}
-use Rattle.invariant.specs.Sound.{Sound}
 
 module _ (s : Sizes) (q : ℕ) (U W : State) (a : Apart s q U W) where
   -- a level with a frame on the queue, or registered with it, stood still
@@ -56,8 +55,7 @@ module _ (s : Sizes) (q : ℕ) (U W : State) (a : Apart s q U W) where
         (λ j m w. still-on j (on w) .frame) (λ j m w. still-on j (on w) .ln)
         (record {
           shows = λ j m r. still-on j (d .registered j r) .ln;
-          stays =
-              λ j m r. still-on j (d .registered j r) .lq ∙ r;
+          stays = λ j m r. still-on j (d .registered j r) .lq ∙ r;
           stays-off = λ j m r. stays-off j r;
         })
         (λ y (m : 0 < cnt y (lists (d .stack) ++ flight (d .stack))). same y (omega (arith, simp counts at m)))

@@ -4,18 +4,15 @@ use mathlib.Core.Path.{_≡_, refl, ap, _∙_}
 use mathlib.Core.Logic.{_≢_}
 use mathlib.Core.Bool.{Bool, false}
 use mathlib.Core.List.{List, [], _∷_, _++_}
+use native.Mathlib.Omega.{arith}
 use Rattle.words.specs.declared.Sizes.{Sizes}
-use Rattle.lists.specs.Count.{cnt}
+use Rattle.lists.specs.Count.{cnt, counts}
 use Rattle.lists.specs.Beginning.{without}
 use Rattle.state.specs.Step.{State}
 use Rattle.state.specs.Queues.{On}
-use Rattle.chains.specs.Seg.{Seg}
-use Rattle.invariant.specs.Ghost.{Stack}
-use native.Mathlib.Omega.{arith}
-use Rattle.lists.specs.Count.{counts}
-use Rattle.chains.specs.Seg.{stop, link}
+use Rattle.chains.specs.Seg.{Seg, stop, link}
 use Rattle.chains.proofs.Links.{seg-split, seg-join, seg-head, seg-rest, seg-nil}
-use Rattle.invariant.specs.Ghost.{floor}
+use Rattle.invariant.specs.Ghost.{Stack, floor}
 use Rattle.invariant.specs.Facts.{bottom, upon}
 use Rattle.invariant.specs.Sound.{StandIn, frontOf, PileIn, Sound, Chained}
 use Rattle.invariant.proofs.Own.{own-in}

@@ -12,19 +12,18 @@ use Rattle.words.specs.Layout.{node, queue}
 use Rattle.lists.specs.Count.{cnt, cnt-self, counts}
 use Rattle.lists.specs.Beginning.{Beginning, without, without-append}
 use Rattle.state.specs.Mem.{Mem, put, put-same, upd}
+use Rattle.table.specs.Frames.{ifEq, goTo, setC, walkTo}
+use Rattle.table.specs.declared.After.the-variants.{Go}
 use Rattle.chains.specs.Member.{Last}
 use Rattle.chains.proofs.Members.{differ}
 use Rattle.chains.specs.Seg.{Seg, stop, link}
-use Rattle.chains.proofs.Links.{seg-put, seg-split, seg-join, seg-head, seg-rest, seg-turn-last, Walk, on, out}
-use Rattle.chains.proofs.Links.{walk}
-use Rattle.table.specs.Frames.{ifEq, goTo, setC, walkTo}
-use Rattle.table.specs.declared.After.the-variants.{Go}
+use Rattle.chains.proofs.Links.{seg-put, seg-split, seg-join, seg-head, seg-rest, seg-turn-last, Walk, on, out, walk}
 use Rattle.invariant.specs.Ghost.{loose, owner, mark, lists, flight, leaving, follow, origin, start}
 use Rattle.invariant.specs.Facts.{Cut}
+use Rattle.invariant.specs.Sound.{view}
 use Rattle.invariant.proofs.Keep.{keep-all, the-same}
 use Rattle.invariant.proofs.Below.{start-own}
 use Rattle.invariant.proofs.Turn.{Turn, Ok, by-eq, below-next, Below, Lists, front, HotBelow}
-use Rattle.invariant.specs.Sound.{view}
 
 -- a list cut behind c still begins as it did
 begins-cut : (s c : ℕ) (pre rest more : List ℕ) → pre ++ c ∷ rest ≡ s ∷ more → (m : List ℕ) × (pre ++ c ∷ [] ≡ s ∷ m)
@@ -61,8 +60,7 @@ module _ (T : Turn) where
   hang {b} {S} {x} {y} n c pre rest e t d s = record {
     pile = below-next T d c n (omega (arith, c-once));
     stand = stand;
-    ends =
-        seg-put c n (omega (arith, c-once)) chain;
+    ends = seg-put c n (omega (arith, c-once)) chain;
     hangs = seg-put c n (omega (arith, c-once)) (seg-rest (two .2));
   }
     where
@@ -113,8 +111,7 @@ module _ (T : Turn) where
         more = s .hot .more;
         begins = s .hot .begins;
         alone = s .hot .alone;
-        linked =
-            seg-put c r (omega (arith, c-once)) (s .hot .linked);
+        linked = seg-put c r (omega (arith, c-once)) (s .hot .linked);
       };
       settled = seg-put c r (omega (arith, c-once)) (s .settled);
       all = s .all;
@@ -144,8 +141,7 @@ module _ (T : Turn) where
       hot = record {
         more = s .hot .more ++ pre;
         begins = ap (λ y. y ++ pre) (s .hot .begins);
-        alone =
-            λ a z. absurd (c-some z);
+        alone = λ a z. absurd (c-some z);
         linked = seg-join (s .hot .linked) (rw m= at (two .1));
       };
       settled = s .settled;
@@ -171,8 +167,7 @@ module _ (T : Turn) where
     hot = record {
       more = s .hot .more ++ p ∷ w;
       begins = ap (λ y. y ++ p ∷ w) (s .hot .begins);
-      alone =
-          λ a z. absurd (h a z);
+      alone = λ a z. absurd (h a z);
       linked = seg-join (s .hot .linked) g;
     };
     settled = s .settled;

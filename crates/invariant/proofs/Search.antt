@@ -19,8 +19,8 @@ use Rattle.chains.proofs.Members.{either, differ}
 use Rattle.chains.proofs.Links.{Walk, on, out, walk}
 use Rattle.invariant.specs.Ghost.{owner, lists, follow, origin, start}
 use Rattle.invariant.specs.Facts.{Aim, behind, before, NotPast, Walking, e13, e14, e15, e16, e17, e21, is-owner}
-use Rattle.invariant.proofs.Below.{hot-start, start-own, start-owned, tail-in, origin-registered, Leads, leads, inner}
-use Rattle.invariant.proofs.Below.{inner-lists, inner-follow, shows}
+use Rattle.invariant.proofs.Below.{hot-start, start-own, start-owned, tail-in, origin-registered, Leads, leads}
+use Rattle.invariant.proofs.Below.{inner, inner-lists, inner-follow, shows}
 use Rattle.invariant.proofs.Turn.{Turn, Ok, by-eq, Case, stay, to, Below, Lists, front, HotBelow}
 
 -- the aim with another fact of the search
@@ -213,6 +213,5 @@ module _ (T : Turn) where
       onwards i p w = record {
         here = λ k. hot-goes z n t d′ s c r (w .here k) (λ j. i (j ∙ sym p));
         above = w .above;
-        more =
-            w .more;
+        more = w .more;
       }

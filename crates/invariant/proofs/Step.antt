@@ -15,19 +15,19 @@ use Rattle.lists.specs.Beginning.{Beginning}
 use Rattle.state.specs.Mem.{Mem, put, put-same, put-other}
 use Rattle.state.specs.Step.{State, memAfter, then, frameAfter, rowOf, stepped}
 use Rattle.state.specs.Queues.{On, own, Within, load, store, free, outOf}
-use Rattle.table.specs.Points.{Point, points, pointIn, pointOf, numberOf, E1, E2, E3, E4, E5, E6, E7, E8, E9, E10, E11, E12}
-use Rattle.table.specs.Points.{E13, E14, E15, E16, E17, E18, E19, E20, E21, E22, E23, E24, E25, E26, E27, E28, E29, D1, D2}
-use Rattle.table.specs.Points.{D3, D4, D5, D6, D7, Unknown}
+use Rattle.table.specs.Points.{Point, points, pointIn, pointOf, numberOf, E1, E2, E3, E4, E5, E6, E7, E8, E9, E10, E11}
+use Rattle.table.specs.Points.{E12, E13, E14, E15, E16, E17, E18, E19, E20, E21, E22, E23, E24, E25, E26, E27, E28, E29}
+use Rattle.table.specs.Points.{D1, D2, D3, D4, D5, D6, D7, Unknown}
 use Rattle.table.specs.Laws.{point-is}
 use Rattle.table.specs.Frames.{counted}
 use Rattle.table.specs.Table.{Row, row}
 use Rattle.table.specs.declared.After.{After}
 use Rattle.invariant.specs.Ghost.{Item, Stack, push, Listed}
 use Rattle.invariant.specs.Facts.{Regs, regs, View, Here, is-loose, d1, d2, d3, d4, d5, d6, d7, Works, Pile, upon}
+use Rattle.invariant.specs.Sound.{view, StandIn, frontOf, ownIn, HereIn, PileIn, Stepping, Sound}
 use Rattle.invariant.proofs.Keep.{upon′}
 use Rattle.invariant.proofs.Below.{listed-below, listed-lower}
 use Rattle.invariant.proofs.Turn.{Turn, Ok, goes-on, has-ended}
-use Rattle.invariant.specs.Sound.{view, StandIn, frontOf, ownIn, HereIn, PileIn, Stepping, Sound}
 use Rattle.invariant.proofs.Enter.{e1-ok, e2-ok, e3-ok, e4-ok, e5-ok, e6-ok}
 use Rattle.invariant.proofs.Append.{e7-ok, e8-ok, e9-ok, e10-ok, e11-ok, e12-ok}
 use Rattle.invariant.proofs.Search.{e13-ok, e14-ok, e15-ok, e16-ok}
@@ -324,8 +324,7 @@ sound-step s q W front d l low o idle =
           within = inside;
           front′ = k .front′;
           sound = k .sound;
-          begins =
-              begins-from e (k .begins);
+          begins = begins-from e (k .begins);
           linked = linked;
         }
       where

@@ -9,9 +9,9 @@ use lib.Dec.{eqb}
 use Rattle.words.specs.declared.Frame.{Frame}
 use Rattle.words.specs.declared.Node.{Node}
 use Rattle.words.specs.Layout.{level}
+use Rattle.words.specs.declared.Word.the-variants.{LevelNode, LevelQueue, Next}
 use Rattle.lists.specs.Count.{Same, same, apart, same?, cnt, cnt-append, counts}
 use Rattle.lists.specs.Beginning.{Beginning, begins-same}
-use Rattle.words.specs.declared.Word.the-variants.{LevelNode, LevelQueue, Next}
 use Rattle.state.specs.Mem.{Mem, put-other, upd}
 use Rattle.state.specs.Step.{memAfter, then}
 use Rattle.state.specs.Queues.{own, outOf}

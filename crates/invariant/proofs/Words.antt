@@ -10,26 +10,26 @@ use Rattle.words.specs.declared.Sizes.{Sizes}
 use Rattle.words.specs.declared.Frame.{Frame}
 use Rattle.words.specs.Layout.{level}
 use Rattle.words.specs.Laws.{Bound}
-use Rattle.lists.specs.Count.{cnt, counts}
-use Rattle.state.specs.Step.{State}
-use Rattle.state.specs.Queues.{On, Within, load, store, free}
-use Rattle.table.specs.Points.{Point, E1, E2, E3, E4, E5, E6, E7, E8, E9, E10, E11, E12, E13, E14, E15, E16, E17, E18, E19}
-use Rattle.table.specs.Points.{E20, E21, E22, E23, E24, E25, E26, E27, E28, E29, D1, D2, D3, D4, D5, D6, D7, Unknown}
-use Rattle.table.specs.Table.{row, loads, stores}
-use Rattle.table.specs.declared.After.{After}
 use Rattle.words.specs.declared.Node.{Node}
 use Rattle.words.specs.declared.Word.the-variants.{Next, LevelQueue}
 use Rattle.words.specs.declared.Word.{Word}
 use Rattle.words.specs.declared.Level.{Level}
+use Rattle.lists.specs.Count.{cnt, counts}
+use Rattle.state.specs.Step.{State}
+use Rattle.state.specs.Queues.{On, Within, load, store, free}
+use Rattle.table.specs.Points.{Point, E1, E2, E3, E4, E5, E6, E7, E8, E9, E10, E11, E12, E13, E14, E15, E16, E17, E18}
+use Rattle.table.specs.Points.{E19, E20, E21, E22, E23, E24, E25, E26, E27, E28, E29, D1, D2, D3, D4, D5, D6, D7, Unknown}
+use Rattle.table.specs.Table.{row, loads, stores}
+use Rattle.table.specs.declared.After.{After}
 use Rattle.chains.proofs.Members.{last-in}
 use Rattle.invariant.specs.Ghost.{Item, Stack, push, lists, flight, follow, origin, start}
 use Rattle.invariant.specs.Facts.{Regs, View, Hot, Loose, Unlinked, Linked, Here, is-loose, is-owner, is-mark, Pile}
-use Rattle.invariant.specs.Facts.{d3, d4, d6, d7, e3, e4, e6, e8, e9, e13, e14, e16, e17, e18, e21, e22, e10, e19, e20}
-use Rattle.invariant.specs.Facts.{e23, e24}
+use Rattle.invariant.specs.Facts.{d3, d4, d6, d7, e3, e4, e6, e8, e9, e13, e14, e16, e17, e18, e21, e22, e10, e19}
+use Rattle.invariant.specs.Facts.{e20, e23, e24}
+use Rattle.invariant.specs.Sound.{StandIn, ownIn, HereIn, PileIn}
 use Rattle.invariant.proofs.Own.{own-le, own-user}
 use Rattle.invariant.proofs.Keep.{aim-first}
 use Rattle.invariant.proofs.Below.{hot-start, nobody}
-use Rattle.invariant.specs.Sound.{StandIn, ownIn, HereIn, PileIn}
 
 -- ---- no operation stands at an unknown point
 

@@ -6,8 +6,8 @@ use mathlib.Core.Bool.{Bool, true, false}
 use mathlib.Core.List.{List, [], _∷_, _++_}
 use Rattle.words.specs.declared.Frame.{Frame}
 use Rattle.lists.specs.Count.{cnt}
-use Rattle.table.specs.Points.{Point, E1, E2, E3, E4, E5, E6, E7, E8, E9, E10, E11, E12, E13, E14, E15, E16, E17, E18, E19}
-use Rattle.table.specs.Points.{E20, E21, E22, E23, E24, E25, E26, E27, E28, E29, D1, D2, D3, D4, D5, D6, D7, pointOf}
+use Rattle.table.specs.Points.{Point, E1, E2, E3, E4, E5, E6, E7, E8, E9, E10, E11, E12, E13, E14, E15, E16, E17, E18}
+use Rattle.table.specs.Points.{E19, E20, E21, E22, E23, E24, E25, E26, E27, E28, E29, D1, D2, D3, D4, D5, D6, D7, pointOf}
 use Rattle.chains.specs.Member.{Last}
 use Rattle.chains.specs.Seg.{Seg}
 use Rattle.invariant.specs.Ghost.{Item, loose, owner, mark, Stack, floor, push, lists, follow, origin, start}
