@@ -19,12 +19,9 @@ use Rattle.table.specs.Table.{Row}
 use Rattle.steps.specs.Step.{endOf, settled, performed}
 use Rattle.state.specs.Mem.{Mem, look, put, upd}
 use Rattle.state.specs.Step.{State, memAfter, then, frameAfter}
-use Rattle.state.specs.View.{memory, frames, look-rd, memory-wr, frames-wr, memory-put, frames-put}
+use Rattle.state.specs.View.{memory, frames}
+use Rattle.state.proofs.Seen.{look-rd, memory-wr, frames-wr, memory-put, frames-put}
 use Rattle.state.specs.Queues.{Within, load, store, free}
-
--- the table as the theory sees it
-abbrev pub stateOf : Sizes → List ℕ → State
-stateOf s t = record { mem = memory s t; frames = frames s t }
 
 -- what a step says
 abbrev pub saysOf : Level → Frame → After → Step

@@ -20,7 +20,8 @@ use Rattle.chains.specs.Member.{Last}
 use Rattle.chains.specs.Seg.{Seg, stop, link}
 use Rattle.chains.proofs.Links.{seg-head, seg-rest, seg-nil}
 use Rattle.state.specs.Mem.{Mem}
-use Rattle.state.specs.View.{memory, look-rd}
+use Rattle.state.specs.View.{memory}
+use Rattle.state.proofs.Seen.{look-rd}
 use Rattle.demand.specs.History.{along}
 use Rattle.demand.specs.Demand.{firstOf}
 use Rattle.demand.proofs.Alone.{First, nothing, user, behind}
