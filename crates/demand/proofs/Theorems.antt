@@ -1,4 +1,4 @@
--- Demand 3, proved over one queue's invariant.
+-- Demand 3, proved: each statement of specs/Demand.antt, from what every history keeps.
 use Prim.Native.Nat.{ℕ, _+_, _≤_, _<_}
 use mathlib.Core.Path.{_≡_, refl, sym, ap, _∙_}
 use mathlib.Core.Bool.{Bool, true, false, cond}
