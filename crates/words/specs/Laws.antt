@@ -8,7 +8,7 @@ use native.Mathlib.Omega.{arith}
 use native.Mathlib.Nat.{add-suc, add-zero}
 use native.Mathlib.Numerals.{add-one}
 use lib.ListN.{length, getD, set, length-set, drop}
-use lib.Seq.{sets, length-sets, getD-set-same, getD-set-other, getD-drop}
+use lib.Seq.{sets, length-sets, getD-set-same, getD-set-other, getD-drop, set-set, set-comm}
 use lib.Dec.{leb, eqb}
 use borrow.Author.Tests.{ltb-true, leb-true, eqb-true, le-leb, lt-ltb, eq-eqb}
 use Rattle.words.specs.declared.Level.{Level}
@@ -525,3 +525,45 @@ has-is s (Head q) b = within-is 1 (s .queues) (q .0) (b .0) (b .1)
 has-is s (Tail q) b = within-is 1 (s .queues) (q .0) (b .0) (b .1)
 has-is s (Next n) b = within-is 1 (s .nodes) (n .0) (b .0) (b .1)
 has-is s (Use n) b = within-is 1 (s .nodes) (n .0) (b .0) (b .1)
+
+-- ---- a frame put again, and beside a word
+
+-- a store beside a run of words, before it and after it
+sets-beside : (ws t : List ℕ) (b j v : ℕ) → ((i : ℕ) → i < length ws → j ≢ b + i) → sets (set t j v) b ws ≡ set (sets t b ws) j v
+sets-beside [] t b j v h = refl
+sets-beside (w ∷ ws) t b j v h =
+    ap (λ (u : List ℕ). sets u (suc b) ws) (set-comm t j b v w (λ e. h 0 (omega arith) (omega arith)))
+    ∙ sets-beside ws (set t b w) (suc b) j v (λ i k e. h (suc i) (omega arith) (omega arith))
+
+-- of two runs of words at one place the last stays
+sets-twice : (ws vs t : List ℕ) (b : ℕ) → length ws ≡ length vs → sets (sets t b ws) b vs ≡ sets t b vs
+sets-twice [] [] t b e = refl
+sets-twice [] (v ∷ vs) t b e = absurd (omega arith)
+sets-twice (w ∷ ws) [] t b e = absurd (omega arith)
+sets-twice (w ∷ ws) (v ∷ vs) t b e =
+    let over : set (sets (set t b w) (suc b) ws) b v ≡ sets (set t b v) (suc b) ws =
+    sym (sets-beside ws (set t b w) (suc b) b v (λ i k z. omega arith))
+    ∙ ap (λ (u : List ℕ). sets u (suc b) ws) (set-set t b w v) in
+    ap (λ (u : List ℕ). sets u (suc b) vs) over ∙ sets-twice ws vs (set t b v) (suc b) (omega arith)
+
+-- a word's own value put into it
+set-own : (t : List ℕ) (i : ℕ) → set t i (getD t i 0) ≡ t
+set-own [] i = refl
+set-own (x ∷ t) zero = refl
+set-own (x ∷ t) (suc i) = ap (λ (r : List ℕ). x ∷ r) (set-own t i)
+
+module _ (s : Sizes) (t : List ℕ) (l : Level) where
+  pub put-put : (f g : Frame) → putFrame s (putFrame s t l f) l g ≡ putFrame s t l g
+  unfolding putFrame
+  put-put f g = sets-twice (frameWords f) (frameWords g) t (frameAt s l) refl
+
+  pub put-wr : (f : Frame) (w : Word) → has s w ≡ true → (v : ℕ) → putFrame s (wr s t w v) l f ≡ wr s (putFrame s t l f) w v
+  unfolding putFrame wr
+  put-wr f w h v =
+      sets-beside (frameWords f) t (frameAt s l) (addr s w) v
+      (λ i k e. omega (arith, addr-clear s w h .before, frame-past s l))
+
+  -- a frame's own words put into it
+  pub put-own : putFrame s t l (frameOf s t l) ≡ t
+  unfolding putFrame frameOf
+  put-own = sym (frame-laid t (frameAt s l) (frameFrom t (frameAt s l))) ∙ simp set-own
