@@ -15,7 +15,7 @@ use Rattle.words.specs.declared.Frame.{Frame}
 use Rattle.words.specs.declared.Measured.the-variants.{Sized}
 use Rattle.words.specs.declared.Word.the-variants.{Head, Use}
 use Rattle.words.specs.Layout.{level, queue, node, within, measured, has, rd, wr, frameOf, putFrame}
-use Rattle.words.specs.Laws.{Bound, bound, within-low, within-high, measured-wr, measured-put, measured-fits}
+use Rattle.words.specs.Laws.{Bound, bound, within-low, within-high, measured-wr, measured-put, measured-fits, has-is}
 use Rattle.answers.specs.Said.{Said, refused, says}
 use Rattle.table.specs.Points.{E1, D1}
 use Rattle.conditions.specs.declared.Sought.{Sought}
@@ -26,12 +26,12 @@ use Rattle.begins.specs.Laws.{enqueues, dequeues}
 use Rattle.lists.specs.Count.{Same, same, apart, same?, cnt, cnt-nil, counts}
 use Rattle.lists.specs.Beginning.{begins-same}
 use Rattle.state.specs.Mem.{Mem, put, upd}
-use Rattle.state.specs.View.{memory, frames, look-rd, frame-is, frame-idle, memory-wr, frames-wr, memory-put, frames-put}
+use Rattle.state.specs.View.{memory, frames, stateOf}
+use Rattle.state.proofs.Seen.{look-rd, frame-is, frame-idle, memory-wr, frames-wr, memory-put, frames-put}
 use Rattle.state.specs.Queues.{own}
-use Rattle.invariant.specs.Own.{own-begun}
+use Rattle.invariant.proofs.Own.{own-begun}
 use Rattle.demand.proofs.Apart.{own-put}
 use Rattle.demand.proofs.World.{World, IdleFrom, enqueueBegun, world-enqueue, world-dequeue}
-use Rattle.demand.proofs.Bridge.{stateOf, has-is}
 use Rattle.demand.proofs.Keeps.{Keeps}
 
 -- ---- conditions that do not hold

@@ -5,15 +5,13 @@ use mathlib.Core.Logic.{_≢_}
 use mathlib.Core.Bool.{true}
 use mathlib.Core.List.{List}
 use native.Mathlib.Omega.{arith}
-use borrow.Author.Tests.{lt-ltb}
 use Rattle.words.specs.declared.Level.{Level}
 use Rattle.words.specs.declared.Sizes.{Sizes}
 use Rattle.words.specs.declared.Frame.{Frame}
 use Rattle.words.specs.declared.Measured.the-variants.{Sized}
-use Rattle.words.specs.declared.Word.{Word}
-use Rattle.words.specs.declared.Word.the-variants.{LevelNode, LevelQueue, Head, Tail, Next, Use}
+use Rattle.words.specs.declared.Word.the-variants.{Next, Use}
 use Rattle.words.specs.Layout.{level, measured, has, wr, putFrame}
-use Rattle.words.specs.Laws.{Bound, within-is, measured-wr, measured-put, measured-fits}
+use Rattle.words.specs.Laws.{Bound, measured-wr, measured-put, measured-fits, has-is}
 use Rattle.answers.specs.Said.{Said, refused, says, Step, going-on, ended}
 use Rattle.table.specs.declared.After.{After}
 use Rattle.table.specs.declared.After.the-variants.{Go, Done}
@@ -21,22 +19,9 @@ use Rattle.table.specs.Table.{Row}
 use Rattle.steps.specs.Step.{endOf, settled, performed}
 use Rattle.state.specs.Mem.{Mem, look, put, upd}
 use Rattle.state.specs.Step.{State, memAfter, then, frameAfter}
-use Rattle.state.specs.View.{memory, frames, look-rd, memory-wr, frames-wr, memory-put, frames-put}
+use Rattle.state.specs.View.{memory, frames}
+use Rattle.state.proofs.Seen.{look-rd, memory-wr, frames-wr, memory-put, frames-put}
 use Rattle.state.specs.Queues.{Within, load, store, free}
-
--- the table as the theory sees it
-abbrev pub stateOf : Sizes → List ℕ → State
-stateOf s t = record { mem = memory s t; frames = frames s t }
-
--- a word within its bounds is one of the table's
-pub has-is : (s : Sizes) (w : Word) → Bound s w → has s w ≡ true
-unfolding has Bound
-has-is s (LevelNode l) b = lt-ltb (l .0) (s .levels) b
-has-is s (LevelQueue l) b = lt-ltb (l .0) (s .levels) b
-has-is s (Head q) b = within-is 1 (s .queues) (q .0) (b .0) (b .1)
-has-is s (Tail q) b = within-is 1 (s .queues) (q .0) (b .0) (b .1)
-has-is s (Next n) b = within-is 1 (s .nodes) (n .0) (b .0) (b .1)
-has-is s (Use n) b = within-is 1 (s .nodes) (n .0) (b .0) (b .1)
 
 -- what a step says
 abbrev pub saysOf : Level → Frame → After → Step

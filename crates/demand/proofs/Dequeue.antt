@@ -18,10 +18,11 @@ use Rattle.steps.specs.Step.{endOf, stepSized}
 use Rattle.steps.specs.Run.{ranOn, runFrom}
 use Rattle.state.specs.Mem.{Mem, put, put-same, put-other}
 use Rattle.state.specs.Step.{memAfter, then, frameAfter, rowOf}
-use Rattle.state.specs.View.{memory, frames, frame-is}
+use Rattle.state.specs.View.{memory, frames, stateOf}
+use Rattle.state.proofs.Seen.{frame-is}
 use Rattle.demand.proofs.Rows.{goes-on}
 use Rattle.demand.proofs.World.{World}
-use Rattle.demand.proofs.Bridge.{stateOf, saysOf, same-said}
+use Rattle.demand.proofs.Bridge.{saysOf, same-said}
 use Rattle.demand.proofs.Steps.{StepAt, step-at}
 use Rattle.demand.specs.History.{Event, ran, Accepted, enqueue, dequeue, step, run, ask, History, none, call}
 use Rattle.demand.specs.Demand.{Uneventful, AllUneventful}

@@ -12,18 +12,20 @@ use Rattle.words.specs.declared.Frame.{Frame}
 use Rattle.words.specs.declared.Word.{Word}
 use Rattle.words.specs.declared.Measured.the-variants.{Sized}
 use Rattle.words.specs.Layout.{level, limits, words, measured, has, rd}
-use Rattle.words.specs.Laws.{Bound, measured-limits}
+use Rattle.words.specs.Laws.{Bound, measured-limits, has-is}
 use Rattle.answers.specs.Said.{Said, refused, says}
 use Rattle.fresh.specs.Fresh.{freshTable, freshOf}
 use Rattle.fresh.specs.Laws.{freshWord, fresh-measured, fresh-rd, fresh-frame}
 use Rattle.lists.specs.Count.{hit, counts}
 use Rattle.lists.specs.Beginning.{without, without-self}
 use Rattle.chains.specs.Seg.{stop, link}
-use Rattle.state.specs.View.{levelQueue, headOf, tailOf, nextOf, useOf, seen, memory, frames, frame-idle, uses-past}
+use Rattle.state.specs.View.{levelQueue, headOf, tailOf, nextOf, useOf, seen, memory, frames, stateOf}
+use Rattle.state.proofs.Seen.{frame-idle, uses-past}
 use Rattle.state.specs.Queues.{own}
-use Rattle.invariant.specs.Sound.{Sound, Chained, sound-start}
+use Rattle.invariant.specs.Sound.{Sound, Chained}
+use Rattle.invariant.proofs.Rest.{sound-start}
 use Rattle.demand.proofs.World.{World}
-use Rattle.demand.proofs.Bridge.{stateOf, has-is, same-said, no-answer}
+use Rattle.demand.proofs.Bridge.{same-said, no-answer}
 
 -- a fresh table that was accepted, as the theory sees it: zeros, but for head and tail of the queues
 pub record Freshly (s : Sizes) (t : List ℕ) : Type 0 where

@@ -8,10 +8,9 @@ use Rattle.words.specs.declared.Measured.the-variants.{Sized}
 use Rattle.words.specs.Layout.{measured}
 use Rattle.lists.specs.Count.{cnt, counts}
 use Rattle.lists.specs.Beginning.{Beginning, begins-same, begins-trans, begins-after}
-use Rattle.state.specs.View.{memory}
+use Rattle.state.specs.View.{memory, stateOf}
 use Rattle.state.specs.Queues.{own}
 use Rattle.demand.proofs.World.{World}
-use Rattle.demand.proofs.Bridge.{stateOf}
 
 pub record Keeps (s : Sizes) (t : List ℕ) (fronts : ℕ → List ℕ) (returned handed : ℕ → List ℕ) (u : List ℕ) : Type 0 where
   pub sized : measured u ≡ Sized s

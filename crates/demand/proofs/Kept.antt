@@ -11,7 +11,8 @@ use Rattle.answers.specs.Said.{refused, says, after, refusal-10}
 use Rattle.steps.specs.Step.{stepMeasured, stepOf, stepSized}
 use Rattle.steps.specs.Run.{runFrom, runMeasured, runOf}
 use Rattle.demand.proofs.World.{World}
-use Rattle.demand.proofs.Bridge.{stateOf, same-said, no-answer, other-number}
+use Rattle.state.specs.View.{stateOf}
+use Rattle.demand.proofs.Bridge.{same-said, no-answer, other-number}
 use Rattle.demand.proofs.Keeps.{Keeps, keeps-same, keeps-then}
 use Rattle.demand.proofs.Steps.{Outcome, idle, took, step-taken}
 use Rattle.demand.proofs.Runs.{run-kept}

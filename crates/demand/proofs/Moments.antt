@@ -15,7 +15,7 @@ use Rattle.words.specs.declared.Frame.{Frame}
 use Rattle.words.specs.declared.Measured.the-variants.{Sized}
 use Rattle.words.specs.declared.Word.the-variants.{Head, Tail}
 use Rattle.words.specs.Layout.{level, within, measured, rd, frameOf}
-use Rattle.words.specs.Laws.{Bound, within-low, within-high, within-is}
+use Rattle.words.specs.Laws.{Bound, within-low, within-high, within-is, has-is}
 use Rattle.answers.specs.Said.{Said, refused, says}
 use Rattle.conditions.specs.declared.Sought.the-variants.{RunningOn}
 use Rattle.conditions.specs.Conditions.{sought, noQueue, unquiet}
@@ -24,12 +24,14 @@ use Rattle.asks.specs.Listing.{nodesFrom, nodesOf, listed, listingSized, listin
 use Rattle.lists.specs.Count.{cnt, cnt-nil, cnt-self}
 use Rattle.lists.specs.Beginning.{without, cnt-without}
 use Rattle.chains.specs.Seg.{Seg, stop, link}
-use Rattle.state.specs.View.{memory, frames, look-rd, frame-is, frame-idle}
+use Rattle.state.specs.View.{memory, frames, stateOf}
+use Rattle.state.proofs.Seen.{look-rd, frame-is, frame-idle}
 use Rattle.state.specs.Queues.{On, own}
-use Rattle.invariant.specs.Own.{own-le}
-use Rattle.invariant.specs.Sound.{Sound, Chained, quiet as at-rest}
+use Rattle.invariant.proofs.Own.{own-le}
+use Rattle.invariant.specs.Sound.{Sound, Chained}
+use Rattle.invariant.proofs.Rest.{quiet as at-rest}
 use Rattle.demand.proofs.World.{World}
-use Rattle.demand.proofs.Bridge.{stateOf, has-is, other-number}
+use Rattle.demand.proofs.Bridge.{other-number}
 use Rattle.demand.proofs.Begins.{none-of}
 use Rattle.demand.proofs.Quiet.{once-short, chain-is, along-is, first-is}
 use Rattle.demand.proofs.Alone.{First}

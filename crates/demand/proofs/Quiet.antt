@@ -12,15 +12,16 @@ use borrow.Author.Tests.{eq-eqb, ne-eqb, le-ltb}
 use Rattle.words.specs.declared.Sizes.{Sizes}
 use Rattle.words.specs.declared.Word.the-variants.{Next}
 use Rattle.words.specs.Layout.{node, rd}
-use Rattle.words.specs.Laws.{Bound}
+use Rattle.words.specs.Laws.{Bound, has-is}
 use Rattle.asks.specs.Listing.{before, chain}
 use Rattle.lists.specs.Count.{Same, same, apart, same?, cnt, cnt-nil, cnt-cons, cnt-self, counts}
 use Rattle.lists.specs.Beginning.{without, cnt-without}
 use Rattle.chains.specs.Member.{Last}
-use Rattle.chains.specs.Seg.{Seg, stop, link, seg-head, seg-rest, seg-nil}
+use Rattle.chains.specs.Seg.{Seg, stop, link}
+use Rattle.chains.proofs.Links.{seg-head, seg-rest, seg-nil}
 use Rattle.state.specs.Mem.{Mem}
-use Rattle.state.specs.View.{memory, look-rd}
-use Rattle.demand.proofs.Bridge.{has-is}
+use Rattle.state.specs.View.{memory}
+use Rattle.state.proofs.Seen.{look-rd}
 use Rattle.demand.specs.History.{along}
 use Rattle.demand.specs.Demand.{firstOf}
 use Rattle.demand.proofs.Alone.{First, nothing, user, behind}

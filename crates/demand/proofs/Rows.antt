@@ -13,50 +13,8 @@ use Rattle.words.specs.declared.Frame.{Frame}
 use Rattle.words.specs.declared.Word.{Word}
 use Rattle.table.specs.declared.After.{After}
 use Rattle.table.specs.declared.After.the-variants.{Go, Done}
-use Rattle.table.specs.Points.{
-  Point,
-  E1,
-  E2,
-  E3,
-  E4,
-  E5,
-  E6,
-  E7,
-  E8,
-  E9,
-  E10,
-  E11,
-  E12,
-  E13,
-  E14,
-  E15,
-  E16,
-  E17,
-  E18,
-  E19,
-  E20,
-  E21,
-  E22,
-  E23,
-  E24,
-  E25,
-  E26,
-  E27,
-  E28,
-  E29,
-  D1,
-  D2,
-  D3,
-  D4,
-  D5,
-  D6,
-  D7,
-  Unknown,
-  numberOf,
-  points,
-  pointIn,
-  pointOf,
-}
+use Rattle.table.specs.Points as point
+use Rattle.table.specs.Points.{Point, Unknown, numberOf, points, pointIn, pointOf}
 use Rattle.words.specs.Layout.{level}
 use Rattle.table.specs.Laws.{point-is, if-other}
 use Rattle.table.specs.Frames.{at, counted, ifEq, belowKTo, belowMTo, walkTo}
@@ -75,7 +33,7 @@ pub data Plain (f : Frame) : After → Type 0 where
 pub data Plainly (p : Point) (f : Frame) : Row → Type 0 where
   load : {w : Word} {after : ℕ → After} → ((x : ℕ) → Plain f (after x)) → Plainly p f (loads w after)
   store : {w : Word} {v : ℕ} {after : After} → Plain f after → Plainly p f (stores w v after)
-  free : {n : Node} → p ≡ D7 → n ≡ f .c → Plainly p f (frees n (Done n))
+  free : {n : Node} → p ≡ point.D7 → n ≡ f .c → Plainly p f (frees n (Done n))
   none : Plainly p f nothing
 
 -- a branch, by what it tests
@@ -107,45 +65,45 @@ by f a (handed o e) = inl refl
 
 pub row-plain : (p : Point) (f : Frame) (l top : Level) → Plainly p f (row p f l top)
 unfolding row
-row-plain E1 f l top = store (goes refl refl)
-row-plain E2 f l top = store (below-k _ refl refl 7 3)
-row-plain E3 f l top = load (λ x. by-eq (λ e. goes refl refl) (below-k _ refl refl 7 3))
-row-plain E4 f l top = load (λ x. goes refl refl)
-row-plain E5 f l top = load (λ x. by-eq (λ e. goes refl refl) (below-m _ refl refl 15 13))
-row-plain E6 f l top = store (below-k _ refl refl 7 3)
-row-plain E7 f l top = load (λ x. goes refl refl)
-row-plain E8 f l top = load (λ x. walk-on 9 x)
-row-plain E9 f l top = store (goes refl refl)
-row-plain E10 f l top = load (λ x. walk-on 11 x)
-row-plain E11 f l top = store (goes refl refl)
-row-plain E12 f l top = store (goes refl refl)
-row-plain E13 f l top = load (λ x. by-eq (λ e. goes refl refl) (below-m _ refl refl 15 13))
-row-plain E14 f l top = load (λ x. by-eq (λ e. below-m _ refl refl 15 13) (goes refl refl))
-row-plain E15 f l top = load (λ x. goes refl refl)
-row-plain E16 f l top =
+row-plain point.E1 f l top = store (goes refl refl)
+row-plain point.E2 f l top = store (below-k _ refl refl 7 3)
+row-plain point.E3 f l top = load (λ x. by-eq (λ e. goes refl refl) (below-k _ refl refl 7 3))
+row-plain point.E4 f l top = load (λ x. goes refl refl)
+row-plain point.E5 f l top = load (λ x. by-eq (λ e. goes refl refl) (below-m _ refl refl 15 13))
+row-plain point.E6 f l top = store (below-k _ refl refl 7 3)
+row-plain point.E7 f l top = load (λ x. goes refl refl)
+row-plain point.E8 f l top = load (λ x. walk-on 9 x)
+row-plain point.E9 f l top = store (goes refl refl)
+row-plain point.E10 f l top = load (λ x. walk-on 11 x)
+row-plain point.E11 f l top = store (goes refl refl)
+row-plain point.E12 f l top = store (goes refl refl)
+row-plain point.E13 f l top = load (λ x. by-eq (λ e. goes refl refl) (below-m _ refl refl 15 13))
+row-plain point.E14 f l top = load (λ x. by-eq (λ e. below-m _ refl refl 15 13) (goes refl refl))
+row-plain point.E15 f l top = load (λ x. goes refl refl)
+row-plain point.E16 f l top =
     load
     (λ x.
     by-eq (λ e. goes refl refl) (by-eq (λ e. by-eq (λ e. goes refl refl) (below-m _ refl refl 15 13)) (goes refl refl)))
-row-plain E17 f l top = load (λ x. goes refl refl)
-row-plain E18 f l top = store (goes refl refl)
-row-plain E19 f l top = load (λ x. walk-on 20 x)
-row-plain E20 f l top = store (goes refl refl)
-row-plain E21 f l top = load (λ x. goes refl refl)
-row-plain E22 f l top = store (goes refl refl)
-row-plain E23 f l top = load (λ x. walk-on 24 x)
-row-plain E24 f l top = store (goes refl refl)
-row-plain E25 f l top = load (λ x. by-eq (λ e. goes refl refl) (goes refl refl))
-row-plain E26 f l top = store (goes refl refl)
-row-plain E27 f l top = store (goes refl refl)
-row-plain E28 f l top = store (goes refl refl)
-row-plain E29 f l top = store (by-eq (λ e. handed e refl) (goes refl refl))
-row-plain D1 f l top = load (λ x. goes refl refl)
-row-plain D2 f l top = load (λ x. by-eq (λ e. empty refl) (goes refl refl))
-row-plain D3 f l top = load (λ x. by-eq (λ e. empty refl) (goes refl refl))
-row-plain D4 f l top = load (λ x. goes refl refl)
-row-plain D5 f l top = store (by-eq (λ e. goes refl refl) (goes refl refl))
-row-plain D6 f l top = store (goes refl refl)
-row-plain D7 f l top = free refl refl
+row-plain point.E17 f l top = load (λ x. goes refl refl)
+row-plain point.E18 f l top = store (goes refl refl)
+row-plain point.E19 f l top = load (λ x. walk-on 20 x)
+row-plain point.E20 f l top = store (goes refl refl)
+row-plain point.E21 f l top = load (λ x. goes refl refl)
+row-plain point.E22 f l top = store (goes refl refl)
+row-plain point.E23 f l top = load (λ x. walk-on 24 x)
+row-plain point.E24 f l top = store (goes refl refl)
+row-plain point.E25 f l top = load (λ x. by-eq (λ e. goes refl refl) (goes refl refl))
+row-plain point.E26 f l top = store (goes refl refl)
+row-plain point.E27 f l top = store (goes refl refl)
+row-plain point.E28 f l top = store (goes refl refl)
+row-plain point.E29 f l top = store (by-eq (λ e. handed e refl) (goes refl refl))
+row-plain point.D1 f l top = load (λ x. goes refl refl)
+row-plain point.D2 f l top = load (λ x. by-eq (λ e. empty refl) (goes refl refl))
+row-plain point.D3 f l top = load (λ x. by-eq (λ e. empty refl) (goes refl refl))
+row-plain point.D4 f l top = load (λ x. goes refl refl)
+row-plain point.D5 f l top = store (by-eq (λ e. goes refl refl) (goes refl refl))
+row-plain point.D6 f l top = store (goes refl refl)
+row-plain point.D7 f l top = free refl refl
 row-plain Unknown f l top = none
 
 -- ---- a frame's next frame
@@ -196,14 +154,14 @@ in-number (y ∷ ys) n x e ne = by (eqb n (numberOf y)) (same? n (numberOf y)) e
     by false (apart h) e ih = ih e ne
 
 -- a number that stands for D7 is D7's
-pub number-D7 : (n : ℕ) → pointOf n ≡ D7 → n ≡ 37
+pub number-D7 : (n : ℕ) → pointOf n ≡ point.D7 → n ≡ 37
 unfolding pointOf
-number-D7 n e = in-number points n D7 e (λ z. (let w : _≡_ {A = ℕ} 0 1 = cc in omega arith))
+number-D7 n e = in-number points n point.D7 e (λ z. (let w : _≡_ {A = ℕ} 0 1 = cc in omega arith))
 
 -- D3 goes on where the node has a next
-pub d3-goes : (M : Mem) (levels l : ℕ) (f : Frame) → f .point ≡ numberOf D3 → M .next (f .c .0) ≢ 0
-    → then M (rowOf levels l f) (counted f) ≡ Go (at (numberOf D4) (counted f))
+pub d3-goes : (M : Mem) (levels l : ℕ) (f : Frame) → f .point ≡ numberOf point.D3 → M .next (f .c .0) ≢ 0
+    → then M (rowOf levels l f) (counted f) ≡ Go (at (numberOf point.D4) (counted f))
 unfolding row counted
 d3-goes M levels l f p h =
-    ap (λ (x : Point). then M (row x (counted f) (level l) (level levels)) (counted f)) (point-is D3 (f .point) p)
+    ap (λ (x : Point). then M (row x (counted f) (level l) (level levels)) (counted f)) (point-is point.D3 (f .point) p)
     ∙ if-other (M .next (f .c .0)) 0 _ _ h

@@ -11,7 +11,7 @@ use Rattle.answers.specs.Said.{Said, says, going-on, ended, Run, after, an-end,
 use Rattle.steps.specs.Step.{stepSized}
 use Rattle.steps.specs.Run.{ranOn, runFrom}
 use Rattle.demand.proofs.World.{World}
-use Rattle.demand.proofs.Bridge.{stateOf}
+use Rattle.state.specs.View.{stateOf}
 use Rattle.demand.proofs.Keeps.{Keeps, keeps-same, keeps-then}
 use Rattle.demand.proofs.Steps.{Outcome, idle, took, step-taken}
 use Rattle.demand.specs.History.{returnedByRun}

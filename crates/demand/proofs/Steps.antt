@@ -30,13 +30,14 @@ use Rattle.lists.specs.Count.{Same, same, apart, same?, cnt, counts}
 use Rattle.lists.specs.Beginning.{Beginning, begins-same}
 use Rattle.state.specs.Mem.{Mem, look, upd}
 use Rattle.state.specs.Step.{State, memAfter, then, rowOf, stepped}
-use Rattle.state.specs.View.{memory, frames, frame-is, frame-idle}
+use Rattle.state.specs.View.{memory, frames, stateOf}
+use Rattle.state.proofs.Seen.{frame-is, frame-idle}
 use Rattle.state.specs.Queues.{On, own, Mine, Within, load, store, free, outOf}
 use Rattle.demand.proofs.World.{World, Moving, world-step}
 use Rattle.demand.proofs.Rows.{Plain, goes, empty, handed, Plainly, row-plain, number-D7}
-use Rattle.invariant.specs.Own.{own-freed}
+use Rattle.invariant.proofs.Own.{own-freed}
 use Rattle.demand.proofs.Apart.{own-use, own-put}
-use Rattle.demand.proofs.Bridge.{stateOf, saysOf, Bridged, performed-is}
+use Rattle.demand.proofs.Bridge.{saysOf, Bridged, performed-is}
 use Rattle.demand.proofs.Keeps.{Keeps}
 use Rattle.demand.specs.History.{returnedAtEnd, returnedByStep}
 

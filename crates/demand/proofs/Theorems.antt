@@ -1,4 +1,4 @@
--- Demand 3, proved over one queue's invariant.
+-- Demand 3, proved: each statement of specs/Demand.antt, from what every history keeps.
 use Prim.Native.Nat.{ℕ, _+_, _≤_, _<_}
 use mathlib.Core.Path.{_≡_, refl, sym, ap, _∙_}
 use mathlib.Core.Bool.{Bool, true, false, cond}
@@ -23,12 +23,12 @@ use Rattle.answers.specs.Said.{says, after, an-end}
 use Rattle.lists.specs.Count.{Same, same, apart, same?, hit, cnt, counts}
 use Rattle.lists.specs.Beginning.{begins-after}
 use Rattle.state.specs.Mem.{put, put-same, put-other}
-use Rattle.state.specs.View.{memory, frames, look-rd, frame-is, memory-put, frames-put}
+use Rattle.state.specs.View.{memory, frames, stateOf}
+use Rattle.state.proofs.Seen.{look-rd, frame-is, memory-put, frames-put}
 use Rattle.state.specs.Queues.{own}
 use Rattle.demand.specs.History.{Event, handedBy, returnedBy, all, handed, returned, stillIn, listed}
 use Rattle.demand.specs.Demand.{Reached, firstOf, EachOnce, ListingAnswers, BeginningKept, DequeueAlone, UseTells, UseListed, NoRefusal10, D3GoesOn}
 use Rattle.demand.proofs.World.{World}
-use Rattle.demand.proofs.Bridge.{stateOf}
 use Rattle.demand.proofs.Keeps.{Keeps}
 use Rattle.demand.proofs.Rows.{d3-goes}
 use Rattle.demand.proofs.Steps.{serves-at, step-at}

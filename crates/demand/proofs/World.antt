@@ -21,9 +21,10 @@ use Rattle.state.specs.Mem.{put, put-same, put-other, upd}
 use Rattle.state.specs.Step.{State, memAfter, rowOf, stepped}
 use Rattle.state.specs.Queues.{On, Within, load, store, free, outOf, Apart}
 use Rattle.invariant.specs.Sound.{Sound}
-use Rattle.invariant.specs.Step.{Stepping, sound-step}
-use Rattle.invariant.specs.Begin.{sound-enqueue, sound-dequeue}
-use Rattle.invariant.specs.Others.{sound-apart}
+use Rattle.invariant.specs.Sound.{Stepping}
+use Rattle.invariant.proofs.Step.{sound-step}
+use Rattle.invariant.proofs.Begin.{sound-enqueue, sound-dequeue}
+use Rattle.invariant.proofs.Others.{sound-apart}
 use Rattle.demand.proofs.Rows.{nextFrame, next-frame}
 use Rattle.demand.proofs.Apart.{own-use, apart-step, apart-dequeue, apart-enqueue}
 

@@ -1,12 +1,13 @@
 -- The invariant of one queue, point by point: what holds of a frame, of its item on the stack, and of the words that they speak of.
-use Prim.Native.Nat.{ℕ, zero, suc, _+_, _≤_, _<_}
+use Prim.Native.Nat.{ℕ, _≤_, _<_}
 use mathlib.Core.Path.{_≡_}
 use mathlib.Core.Logic.{_≢_}
 use mathlib.Core.Bool.{Bool, true, false}
 use mathlib.Core.List.{List, [], _∷_, _++_}
 use Rattle.words.specs.declared.Frame.{Frame}
 use Rattle.lists.specs.Count.{cnt}
-use Rattle.table.specs.Points.{Point, E1, E2, E3, E4, E5, E6, E7, E8, E9, E10, E11, E12, E13, E14, E15, E16, E17, E18, E19, E20, E21, E22, E23, E24, E25, E26, E27, E28, E29, D1, D2, D3, D4, D5, D6, D7, pointOf}
+use Rattle.table.specs.Points.{Point, E1, E2, E3, E4, E5, E6, E7, E8, E9, E10, E11, E12, E13, E14, E15, E16, E17, E18}
+use Rattle.table.specs.Points.{E19, E20, E21, E22, E23, E24, E25, E26, E27, E28, E29, D1, D2, D3, D4, D5, D6, D7, pointOf}
 use Rattle.chains.specs.Member.{Last}
 use Rattle.chains.specs.Seg.{Seg}
 use Rattle.invariant.specs.Ghost.{Item, loose, owner, mark, Stack, floor, push, lists, follow, origin, start}
@@ -91,7 +92,8 @@ pub record Walking (top o m c : ℕ) (x : List ℕ) : Type 0 where
   pub above : o ≢ top → o ≤ m
   pub more : o ≢ top → m ≢ top
 
--- l is its level; below it lie the hot list x, of a chain with origin o and start s, which t follows, and the nodes lower in the stack's lists;
+-- l is its level; below it lie the hot list x, of a chain with origin o and start s, which t follows, and the nodes lower in the
+-- stack's lists;
 -- done says that the highest registered level there is one whose work is done
 module _ (top q l : ℕ) (ln lq next : ℕ → ℕ) (tail o s t : ℕ) (x lower : List ℕ) (done : Bool) (g : Regs) where
   open Regs g using (k, p, c, a, r, m)
@@ -151,10 +153,12 @@ module _ (top q : ℕ) (v : View) (l : ℕ) (g : Regs) where
     is-done : {st : Stack} → v .lq l ≡ q → v .ln l ≡ v .tail → origin top st ≡ top → Here E28 (loose [] []) st false true
     is-owner : {p : Point} {x : List ℕ} {st : Stack} {b : Bool}
         → v .lq l ≡ q → v .ln l ≡ g .n → Hot top (v .next) (origin top st) (start (v .tail) st) (follow st) x
-        → Unlinked top q l (v .ln) (v .lq) (v .next) (v .tail) (origin top st) (start (v .tail) st) (follow st) x (lists st) b g p
+        → Unlinked top q l (v .ln) (v .lq) (v .next) (v .tail) (origin top st) (start (v .tail) st) (follow st) x
+        (lists st) b g p
         → Here p (owner (g .n) x) st b false
     is-mark : {p : Point} {s : ℕ} {w : List ℕ} {st : Stack}
-        → v .lq l ≡ q → v .ln l ≡ s → Linked top (v .next) (v .tail) (origin top st) (follow st) s w g p → Here p (mark s w) st false false
+        → v .lq l ≡ q → v .ln l ≡ s → Linked top (v .next) (v .tail) (origin top st) (follow st) s w g p
+        → Here p (mark s w) st false false
 
 -- ---- all of them
 
@@ -169,4 +173,5 @@ module _ (top q : ℕ) (v : View) (fr : ℕ → Frame) where
   pub data Pile : ℕ → Stack → Bool → Type 0 where
     bottom : {n : ℕ} → Pile n floor false
     upon : {n l : ℕ} {p : Point} {i : Item} {st : Stack} {b b′ : Bool}
-        → l < n → Works q (fr l) → pointOf (fr l .point) ≡ p → Here top q v l (regs (fr l)) p i st b b′ → Pile l st b → Pile n (push l i st) b′
+        → l < n → Works q (fr l) → pointOf (fr l .point) ≡ p → Here top q v l (regs (fr l)) p i st b b′ → Pile l st b
+        → Pile n (push l i st) b′

@@ -1,5 +1,8 @@
 -- The ghost state of one queue: the operations that stand on it, the highest first, and the lists of nodes that each of them holds.
 -- Above the stack lies the hot list: the nodes of the chain that the next operation will work on, up to the first mark in it.
+-- Read from the top: the hot list, then the piece of each mark up to the next owner, is one chain, which begins with that owner's
+-- node; then the same again from the hot list that waits below the owner. After the last owner comes the queue's own chain, from
+-- tail on: what stands before tail, the settled nodes, no enqueue touches. Each step changes the top of the stack alone.
 use Prim.Native.Nat.{ℕ}
 use mathlib.Core.Path.{_≡_}
 use mathlib.Core.Logic.{_⊎_}

@@ -1,26 +1,51 @@
--- The invariant of queue q in a state, with the frozen front of the queue: its nodes, once each, are those settled, those of the hot list, and those of the operations on it.
--- It holds of every queue at rest, and a queue at rest that has it is one chain from head to tail.
-use Prim.Native.Nat.{ℕ, zero, suc, _+_, _≤_, _<_}
-use mathlib.Core.Path.{_≡_, refl, sym, ap, _∙_}
-use mathlib.Core.Logic.{_≢_, _⊎_, inl, inr}
-use mathlib.Core.Bool.{Bool, true, false}
+-- The invariant of queue q in a state, with the frozen front of the queue, and what it is kept by.
+-- The queue's nodes, once each, are those settled, those of the hot list, and those of the operations on it.
+use Prim.Native.Nat.{ℕ, _+_, _≤_, _<_}
+use mathlib.Core.Path.{_≡_}
+use mathlib.Core.Logic.{_≢_}
+use mathlib.Core.Bool.{Bool}
 use mathlib.Core.List.{List, [], _∷_, _++_}
-use native.Mathlib.Omega.{arith}
 use Rattle.words.specs.declared.Sizes.{Sizes}
 use Rattle.words.specs.declared.Frame.{Frame}
-use Rattle.lists.specs.Count.{cnt, cnt-append, cnt-cons, cnt-nil, eqb-self, counts}
-use Rattle.lists.specs.Beginning.{without}
-use Rattle.state.specs.Step.{State}
-use Rattle.state.specs.Queues.{On, own, Apart, Alike, still, others}
-use Rattle.table.specs.Points.{pointOf}
+use Rattle.lists.specs.Count.{cnt}
+use Rattle.lists.specs.Beginning.{Beginning, without}
+use Rattle.state.specs.Mem.{Mem}
+use Rattle.state.specs.Step.{State, rowOf, stepped}
+use Rattle.state.specs.Queues.{On, own, Within, outOf}
+use Rattle.table.specs.Points.{Point, numberOf, D3}
 use Rattle.chains.specs.Member.{Last}
-use Rattle.chains.specs.Seg.{Seg, stop, link, seg-split, seg-join, seg-head, seg-rest, seg-nil}
-use Rattle.invariant.specs.Ghost.{Item, Stack, floor, push, lists, flight, leaving, follow, origin, start, Listed}
-use Rattle.invariant.specs.Facts.{regs, View, Hot, Here, Works, Pile, bottom, upon}
-use Rattle.invariant.specs.Keep.{keep, keep-hot, the-same}
-use Rattle.invariant.specs.Below.{listed-below}
-use Rattle.invariant.specs.Own.{own-in}
-use Rattle.invariant.specs.Turn.{view, Stand, StandIn, frontOf}
+use Rattle.chains.specs.Seg.{Seg}
+use Rattle.invariant.specs.Ghost.{Item, Stack, lists, flight, leaving, follow, origin, start, Listed}
+use Rattle.invariant.specs.Facts.{regs, View, Hot, Here, Pile}
+
+-- what queue q's facts read in a memory
+abbrev pub view : ℕ → Mem → List ℕ → View
+view q M S = record { ln = M .ln; lq = M .lq; next = M .next; head = M .head q; tail = M .tail q; settled = S }
+
+-- the settled nodes, the hot list and the stack's lists hold the queue's nodes, each as often as own says
+pub record Stand (top : ℕ) (own next : ℕ → ℕ) (head tail : ℕ) (S x : List ℕ) (st : Stack) : Type 0 where
+  pub hot : Hot top next (origin top st) (start tail st) (follow st) x
+  pub settled : Seg next head S tail
+  pub all : (y : ℕ) → cnt y S + cnt y x + cnt y (lists st) + cnt y (flight st) ≡ own y
+
+-- the frozen front of the queue: what is going out, and the settled nodes with tail, the sentinel left out
+abbrev pub frontOf : ℕ → Mem → List ℕ → Stack → List ℕ
+frontOf q M S st = without q (leaving st ++ (S ++ M .tail q ∷ []))
+
+-- the same of queue q in a state, of the sizes s
+abbrev pub ownIn : Sizes → ℕ → State → ℕ → ℕ
+ownIn s q W = own (s .queues) (W .mem .uses) q
+
+abbrev pub HereIn : Sizes → ℕ → State → List ℕ → ℕ → Frame → Point → Item → Stack → Bool → Bool → Type 0
+HereIn s q W S l f p i st b b′ = Here (s .levels) q (view q (W .mem) S) l (regs f) p i st b b′
+
+abbrev pub PileIn : Sizes → ℕ → State → List ℕ → ℕ → Stack → Bool → Type 0
+PileIn s q W S n st b = Pile (s .levels) q (view q (W .mem) S) (W .frames) n st b
+
+abbrev pub StandIn : Sizes → ℕ → State → List ℕ → List ℕ → Stack → Type 0
+StandIn s q W S x st = Stand (s .levels) (ownIn s q W) (W .mem .next) (W .mem .head q) (W .mem .tail q) S x st
+
+-- ---- the invariant
 
 pub record Sound (s : Sizes) (q : ℕ) (W : State) (front : List ℕ) : Type 0 where
   -- the ghost state
@@ -29,14 +54,14 @@ pub record Sound (s : Sizes) (q : ℕ) (W : State) (front : List ℕ) : Type 0 w
   pub stack : Stack
   pub done : Bool
   -- the operations on the queue, and the lists of its nodes
-  pub pile : Pile (s .levels) q (view q (W .mem) settled) (W .frames) (s .levels) stack done
-  pub stand : StandIn (s .levels) q (own (s .queues) (W .mem .uses) q) (W .mem) settled hot stack
+  pub pile : PileIn s q W settled (s .levels) stack done
+  pub stand : StandIn s q W settled hot stack
   -- the frames on the queue are those of the stack, registered levels have one, and one dequeue at most is among them
   pub listed : (j : ℕ) → On q (W .frames j) → Listed j stack
   pub registered : (j : ℕ) → W .mem .lq j ≡ q → On q (W .frames j)
   pub one : (i j : ℕ) → On q (W .frames i) → On q (W .frames j) → W .frames i .op ≡ 2 → W .frames j .op ≡ 2 → i ≡ j
   -- the queue's nodes are nodes of the table, and the queue is one of its queues
-  pub nodes : (y : ℕ) → own (s .queues) (W .mem .uses) q y ≡ 1 → (1 ≤ y) × (y ≤ s .nodes)
+  pub nodes : (y : ℕ) → ownIn s q W y ≡ 1 → (1 ≤ y) × (y ≤ s .nodes)
   pub low : 1 ≤ q
   pub high : q ≤ s .queues
   pub front-is : front ≡ frontOf q (W .mem) settled stack
@@ -46,52 +71,19 @@ pub record Chained (s : Sizes) (q : ℕ) (W : State) (front : List ℕ) : Type 0
   pub nodes : List ℕ
   pub linked : Seg (W .mem .next) (W .mem .head q) nodes 0
   pub ends : Last (W .mem .tail q) nodes
-  pub once : (x : ℕ) → cnt x nodes ≡ own (s .queues) (W .mem .uses) q x
+  pub once : (x : ℕ) → cnt x nodes ≡ ownIn s q W x
   pub front-is : front ≡ without q nodes
 
--- ---- at rest
+-- ---- what a step does
 
-pub quiet : (s : Sizes) (q : ℕ) (W : State) (front : List ℕ) → Sound s q W front → ((j : ℕ) → ¬ On q (W .frames j)) → Chained s q W front
-quiet s q W front d h = by (d .stack) (d .done) (d .pile) (d .stand) (d .front-is)
-  where
-    M : List ℕ
-    M = d .settled
-
-    by : (st : Stack) (b : Bool) → Pile (s .levels) q (view q (W .mem) M) (W .frames) (s .levels) st b → StandIn (s .levels) q (own (s .queues) (W .mem .uses) q) (W .mem) M (d .hot) st
-        → front ≡ frontOf q (W .mem) M st → Chained s q W front
-    by _ _ bottom t e =
-        let w : d .hot ≡ W .mem .tail q ∷ [] = t .hot .begins ∙ ap (λ y. W .mem .tail q ∷ y) (t .hot .alone refl refl) in
-        record {
-          nodes = M ++ W .mem .tail q ∷ [];
-          linked = seg-join (t .settled) (rw w at (t .hot .linked));
-          ends = (M, refl);
-          once = λ y. simp counts (omega (arith, simp (w, counts) at (t .all y)));
-          front-is = e;
-        }
-    by _ _ (upon {l = l} a o i k p) t e = absurd (h l ((λ (z : W .frames l .op ≡ 0). omega (arith, o)), o .queued))
-
--- the settled nodes and tail, in one chain
-pub sound-start : (s : Sizes) (q : ℕ) (W : State) (front : List ℕ) → 1 ≤ q → q ≤ s .queues → s .queues ≤ s .nodes → ((j : ℕ) → ¬ On q (W .frames j))
-    → ((j : ℕ) → W .mem .lq j ≢ q) → ((n : ℕ) → s .nodes < n → W .mem .uses n ≡ 0) → Chained s q W front → Sound s q W front
-sound-start s q W front a b c h r u k = record {
-  settled = k .ends .0;
-  hot = W .mem .tail q ∷ [];
-  stack = floor;
-  done = false;
-  pile = bottom;
-  stand = record {
-    hot = record { more = []; begins = refl; linked = link refl (stop (seg-nil (seg-rest (two .2)))); alone = λ x y. refl };
-    settled = rw (seg-head (two .2)) at (two .1);
-    all = λ y. simp counts (omega (arith, k .once y, simp counts at (ap (cnt y) (k .ends .1))));
-  };
-  listed = λ j o. absurd (h j o);
-  registered = λ j e. absurd (r j e);
-  one = λ i j o. absurd (h i o);
-  nodes = λ y e. own-in (s .queues) (s .nodes) (W .mem .uses) q y a b c u e;
-  low = a;
-  high = b;
-  front-is = k .front-is ∙ ap (without q) (k .ends .1);
-}
-  where
-    two : (m : ℕ) × Seg (W .mem .next) (W .mem .head q) (k .ends .0) m × Seg (W .mem .next) m (W .mem .tail q ∷ []) 0
-    two = seg-split (k .ends .0) (rw (k .ends .1) at (k .linked))
+-- the frame is one that a step accepts, its access is within the table and the queue, the invariant is kept, what was frozen in
+-- front stays so,
+-- and D3 does not end a dequeue
+pub record Stepping (s : Sizes) (q : ℕ) (W : State) (l : ℕ) (front : List ℕ) : Type 0 where
+  pub op : W .frames l .op ≤ 2
+  pub point : W .frames l .op ≡ 1 → W .frames l .point < 31
+  pub within : Within s q W (rowOf (s .levels) l (W .frames l))
+  pub front′ : List ℕ
+  pub sound : Sound s q (stepped (s .levels) l W) front′
+  pub begins : Beginning front (outOf (rowOf (s .levels) l (W .frames l)) ++ front′)
+  pub linked : W .frames l .point ≡ numberOf D3 → W .mem .next (W .frames l .c .0) ≢ 0

@@ -10,7 +10,6 @@ use borrow.Author.Tests.{eqb-true, eqb-false}
 use Rattle.words.specs.declared.Level.{Level}
 use Rattle.words.specs.declared.Sizes.{Sizes}
 use Rattle.words.specs.declared.Frame.{Frame}
-use Rattle.words.specs.declared.Word.{Word}
 use Rattle.words.specs.declared.Word.the-variants as word
 use Rattle.words.specs.Layout.{level, words, has, rd, wr, frameOf, putFrame}
 use Rattle.words.specs.Laws.{has-use, frame-wr, frame-same, frame-other}
@@ -24,7 +23,7 @@ use Rattle.table.specs.declared.After.the-variants.{Go, Done}
 use Rattle.table.specs.declared.Turned.{Turned}
 use Rattle.table.specs.declared.Turned.the-variants.{Next, Stray}
 use Rattle.steps.specs.declared.Held.{Held}
-use Rattle.steps.specs.declared.Held.the-variants.{Going, Ended, Damaged}
+use Rattle.steps.specs.declared.Held.the-variants.{Going, Damaged}
 use Rattle.steps.specs.Step.{serving, sound}
 use Rattle.steps.specs.Held.{followed, follow, held}
 

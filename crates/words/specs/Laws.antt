@@ -2,23 +2,21 @@
 use Prim.Native.Nat.{ℕ, zero, suc, _+_, _-_, _*_, _≤_, _<_}
 use mathlib.Core.Path.{_≡_, refl, ap, sym, subst, _∙_}
 use mathlib.Core.Logic.{_≢_}
-use mathlib.Core.List.{List, [], _∷_, _++_}
+use mathlib.Core.List.{List, [], _∷_}
 use mathlib.Core.Bool.{Bool, true, false, cond, _&&_}
 use native.Mathlib.Omega.{arith}
 use native.Mathlib.Nat.{add-suc, add-zero}
 use native.Mathlib.Numerals.{add-one}
-use lib.ListN.{length, getD, set, length-set, take, drop}
-use lib.Seq.{sets, length-sets, getD-set-same, getD-set-other, set-set, set-comm}
-use lib.Dec.{ltb, leb, eqb}
+use lib.ListN.{length, getD, set, length-set, drop}
+use lib.Seq.{sets, length-sets, getD-set-same, getD-set-other, getD-drop, set-set, set-comm}
+use lib.Dec.{leb, eqb}
 use borrow.Author.Tests.{ltb-true, leb-true, eqb-true, le-leb, lt-ltb, eq-eqb}
 use Rattle.words.specs.declared.Level.{Level}
-use Rattle.words.specs.declared.Queue.{Queue}
 use Rattle.words.specs.declared.Node.{Node}
 use Rattle.words.specs.declared.Sizes.{Sizes}
 use Rattle.words.specs.declared.Frame.{Frame}
 use Rattle.words.specs.declared.Word.{Word}
 use Rattle.words.specs.declared.Word.the-variants.{LevelNode, LevelQueue, Head, Tail, Next, Use}
-use Rattle.words.specs.declared.Measured.{Measured}
 use Rattle.words.specs.declared.Measured.the-variants.{Sized, Unfit}
 use Rattle.words.specs.Layout.{
   level,
@@ -328,10 +326,10 @@ frames-apart : (s : Sizes) (k l : Level) (i j : ℕ) → k .0 ≢ l .0 → i < 1
 unfolding frameAt
 frames-apart s k l i j ne p q e = omega arith
 
--- a frame is the same where its 11 words are
-frame-kept : (t u : List ℕ) (b : ℕ) → ((i : ℕ) → i < 11 → getD u (b + i) 0 ≡ getD t (b + i) 0) → frameFrom u b ≡ frameFrom t b
-frame-kept t u b h =
-    let op : getD u b 0 ≡ getD t b 0 = rw add-zero at (h 0 (omega arith)) in
+-- a frame is read from b on as from the front of a list that has the same 11 words
+frame-words : (u ws : List ℕ) (b : ℕ) → ((i : ℕ) → i < 11 → getD u (b + i) 0 ≡ getD ws i 0) → frameFrom u b ≡ frameFrom ws 0
+frame-words u ws b h =
+    let op : getD u b 0 ≡ getD ws 0 0 = rw add-zero at (h 0 (omega arith)) in
     simp (
       op,
       h 1 (omega arith),
@@ -345,6 +343,11 @@ frame-kept t u b h =
       h 9 (omega arith),
       h 10 (omega arith),
     )
+
+frame-kept : (t u : List ℕ) (b : ℕ) → ((i : ℕ) → i < 11 → getD u (b + i) 0 ≡ getD t (b + i) 0) → frameFrom u b ≡ frameFrom t b
+frame-kept t u b h =
+    frame-words u (drop b t) b (λ i k. h i k ∙ sym (getD-drop b t i 0))
+    ∙ sym (frame-words t (drop b t) b (λ i k. sym (getD-drop b t i 0)))
 
 module _ (s : Sizes) (t : List ℕ) (l : Level) where
   -- a frame after a word was written
@@ -364,27 +367,9 @@ module _ (s : Sizes) (t : List ℕ) (l : Level) where
   -- a frame after it was put
   pub frame-same : (g : Frame) → words s ≤ length t → l .0 < s .levels → frameOf s (putFrame s t l g) l ≡ g
   unfolding frameOf putFrame
-  frame-same g room h = by (λ i k. sets-in (frameWords g) t (frameAt s l) i k (omega (arith, frame-in s l h)))
-    where
-      u : List ℕ
-      u = sets t (frameAt s l) (frameWords g)
-
-      by : ((i : ℕ) → i < 11 → getD u (frameAt s l + i) 0 ≡ getD (frameWords g) i 0) → frameFrom u (frameAt s l) ≡ g
-      by at =
-          let op : getD u (frameAt s l) 0 ≡ g .op = rw add-zero at (at 0 (omega arith)) in
-          simp (
-            op,
-            at 1 (omega arith),
-            at 2 (omega arith),
-            at 3 (omega arith),
-            at 4 (omega arith),
-            at 5 (omega arith),
-            at 6 (omega arith),
-            at 7 (omega arith),
-            at 8 (omega arith),
-            at 9 (omega arith),
-            at 10 (omega arith),
-          )
+  frame-same g room h =
+      frame-words (sets t (frameAt s l) (frameWords g)) (frameWords g) (frameAt s l)
+      (λ i k. sets-in (frameWords g) t (frameAt s l) i k (omega (arith, frame-in s l h)))
 
   -- and another level's frame
   pub frame-other : (g : Frame) (k : Level) → k .0 ≢ l .0 → frameOf s (putFrame s t l g) k ≡ frameOf s t k

@@ -1,4 +1,4 @@
-use Prim.Native.Nat.{ℕ, _+_}
+use Prim.Native.Nat.{_+_}
 use mathlib.Core.Path.{_≡_}
 use lib.ListN.{length}
 use Rattle.steps.specs.Run.{ranOn}

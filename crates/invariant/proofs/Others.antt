@@ -1,24 +1,20 @@
 -- Nothing of a queue moved: its invariant stands, whatever other queues' frames, nodes and levels did.
-use Prim.Native.Nat.{ℕ, zero, suc, _+_, _≤_, _<_}
-use mathlib.Core.Path.{_≡_, refl, sym, ap, _∙_}
-use mathlib.Core.Logic.{_≢_, _⊎_, inl, inr}
-use mathlib.Core.Bool.{Bool, true, false}
-use mathlib.Core.List.{List, [], _∷_, _++_, append-nil}
+use Prim.Native.Nat.{ℕ, _+_, _<_}
+use mathlib.Core.Path.{_≡_, sym, _∙_}
+use mathlib.Core.Logic.{_≢_}
+use mathlib.Core.List.{List, [], _++_, append-nil}
 use native.Mathlib.Omega.{arith}
 use Rattle.words.specs.declared.Sizes.{Sizes}
 use Rattle.words.specs.declared.Frame.{Frame}
-use Rattle.lists.specs.Count.{cnt, cnt-append, cnt-cons, cnt-nil, eqb-self, counts}
-use Rattle.lists.specs.Beginning.{without}
-use Rattle.state.specs.Mem.{Mem}
+use Rattle.lists.specs.Count.{cnt, counts}
 use Rattle.state.specs.Step.{State}
-use Rattle.state.specs.Queues.{On, own, Apart, Alike, still, others}
-use Rattle.chains.specs.Seg.{Seg, seg-same}
-use Rattle.invariant.specs.Ghost.{Stack, lists, flight, leaving, Listed}
-use Rattle.invariant.specs.Facts.{View, Hot, Works, Pile}
-use Rattle.invariant.specs.Keep.{keep, keep-hot, Fetches, the-same, Steady}
-use Rattle.invariant.specs.Own.{own-le}
-use Rattle.invariant.specs.Turn.{view, Stand, StandIn, frontOf}
-use Rattle.invariant.specs.Sound.{Sound}
+use Rattle.state.specs.Queues.{On, Apart, Alike, still, others}
+use Rattle.chains.proofs.Links.{seg-same}
+use Rattle.invariant.specs.Ghost.{lists, flight}
+use Rattle.invariant.specs.Facts.{Works}
+use Rattle.invariant.specs.Sound.{view, Sound}
+use Rattle.invariant.proofs.Keep.{keep, keep-hot, the-same}
+use Rattle.invariant.proofs.Own.{own-le}
 
 module _ (s : Sizes) (q : ℕ) (U W : State) (a : Apart s q U W) where
   -- a level with a frame on the queue, or registered with it, stood still
@@ -54,11 +50,18 @@ module _ (s : Sizes) (q : ℕ) (U W : State) (a : Apart s q U W) where
     hot = d .hot;
     stack = d .stack;
     done = d .done;
-    pile = keep (view q (U .mem) (d .settled)) (view q (W .mem) (d .settled)) (U .frames) (W .frames) (s .levels) (lists (d .stack) ++ flight (d .stack)) (omega arith)
+    pile = keep (view q (U .mem) (d .settled)) (view q (W .mem) (d .settled)) (U .frames) (W .frames) (s .levels)
+        (lists (d .stack) ++ flight (d .stack)) (omega arith)
         (λ j m w. still-on j (on w) .frame) (λ j m w. still-on j (on w) .ln)
-        (record { shows = λ j m r. still-on j (d .registered j r) .ln; stays = λ j m r. still-on j (d .registered j r) .lq ∙ r; stays-off = λ j m r. stays-off j r })
+        (record {
+          shows = λ j m r. still-on j (d .registered j r) .ln;
+          stays = λ j m r. still-on j (d .registered j r) .lq ∙ r;
+          stays-off = λ j m r. stays-off j r;
+        })
         (λ y (m : 0 < cnt y (lists (d .stack) ++ flight (d .stack))). same y (omega (arith, simp counts at m)))
-        (λ j m w. the-same (a .head) [] (sym (append-nil (d .settled))) (λ y (r : 0 < cnt y (d .settled)). same y (omega arith))) (omega arith) (λ y. simp counts (omega arith)) (λ r. a .tail) (d .pile);
+        (λ j m w. the-same (a .head) [] (sym (append-nil (d .settled)))
+        (λ y (r : 0 < cnt y (d .settled)). same y (omega arith))) (omega arith) (λ y. simp counts (omega arith))
+        (λ r. a .tail) (d .pile);
     stand = rw (a .head, a .tail) (record {
       hot = keep-hot (λ y (r : 0 < cnt y (d .hot)). same y (omega arith)) (d .stand .hot);
       settled = seg-same (λ y (r : 0 < cnt y (d .settled)). same y (omega arith)) (d .stand .settled);
@@ -66,7 +69,8 @@ module _ (s : Sizes) (q : ℕ) (U W : State) (a : Apart s q U W) where
     });
     listed = λ j o. d .listed j (rw (still-then j o .frame) at o);
     registered = λ j e. registered j e (a .level j);
-    one = λ i j x y u w. let f = still-then i x .frame in let g = still-then j y .frame in d .one i j (rw f at x) (rw g at y) (rw f at u) (rw g at w);
+    one = λ i j x y u w. let f = still-then i x .frame in let g = still-then j y .frame in
+        d .one i j (rw f at x) (rw g at y) (rw f at u) (rw g at w);
     nodes = λ y e. d .nodes y (sym (a .owns y) ∙ e);
     low = d .low;
     high = d .high;
@@ -81,5 +85,6 @@ module _ (s : Sizes) (q : ℕ) (U W : State) (a : Apart s q U W) where
       registered j e (others x y u w) = absurd (w e)
 
       -- a node that stands in some list is the queue's, so its link stood still
-      same : (y : ℕ) → 0 < cnt y (d .settled) + cnt y (d .hot) + cnt y (lists (d .stack)) + cnt y (flight (d .stack)) → W .mem .next y ≡ U .mem .next y
+      same : (y : ℕ) → 0 < cnt y (d .settled) + cnt y (d .hot) + cnt y (lists (d .stack)) + cnt y (flight (d .stack))
+          → W .mem .next y ≡ U .mem .next y
       same y h = a .next y (omega (arith, d .stand .all y, own-le (s .queues) (U .mem .uses) q y))
