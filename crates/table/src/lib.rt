@@ -353,64 +353,74 @@ fn free(t: &mut [u16], s: Sizes, n: Node, next: After) -> Turned
     }
 }
 
-// The step table from E25 on: an enqueue leaves, and a dequeue.
-fn turn_out(t: &mut [u16], s: Sizes, l: Level, top: Level, f: Frame) -> Turned
+// The step table: the one access of the frame's point, and what follows it. The frame is held beside the table.
+// These are the points from E1 on: an enqueue enters, and where it can, it appends.
+pub fn turn(t: &mut [u16], s: Sizes, l: Level, top: Level, f: Frame) -> Turned
     requires { ⌜ Fits s (now t) ⌝ }
-    requires { ⌜ pointIn (entering ++ inserting) (f .point) ≡ Unknown ⌝ }
     ensures { λ r. ⌜ turned s (now (t .entry)) (row (pointOf (f .point)) f l top) ≡ (r, now (t .exit)) ⌝ }
 {
     let point = f.point;
     let q = f.queue;
+    let n = f.node;
+    let k = f.k;
+    let p = f.p;
     let c = f.c;
-    let a = f.a;
-    let r = f.r;
     match point {
-        Point::E25 => match load(t, s, Word::Tail(q)) {
-            Loaded::Value(x) => Turned::Next(go_if_same(f, x, a.0, Point::E26, Point::E28)),
-            Loaded::Stray => Turned::Stray,
-        },
-        Point::E26 => store(t, s, Word::LevelNode(l), c.0, go(f, Point::E27)),
-        Point::E27 => store(t, s, Word::Tail(q), c.0, go(f, Point::E28)),
-        Point::E28 => store(t, s, Word::LevelQueue(l), 0, go(f, Point::E29)),
-        Point::E29 => store(t, s, Word::LevelNode(l), 0, end_or_go(f, Point::D1)),
-        Point::D1 => match load(t, s, Word::Head(q)) {
-            Loaded::Value(x) => Turned::Next(go(with_c(f, x), Point::D2)),
-            Loaded::Stray => Turned::Stray,
-        },
-        Point::D2 => match load(t, s, Word::Tail(q)) {
-            Loaded::Value(x) => {
-                if x == c.0 {
-                    Turned::Next(After::Done(Node(0)))
-                } else {
-                    Turned::Next(go(f, Point::D3))
-                }
-            }
-            Loaded::Stray => Turned::Stray,
-        },
-        Point::D3 => match load(t, s, Word::Next(c)) {
-            Loaded::Value(x) => {
-                if x == 0 {
-                    Turned::Next(After::Done(Node(0)))
-                } else {
-                    Turned::Next(go(f, Point::D4))
-                }
-            }
-            Loaded::Stray => Turned::Stray,
-        },
-        Point::D4 => match load(t, s, Word::Next(c)) {
-            Loaded::Value(x) => Turned::Next(go(with_r(f, x), Point::D5)),
-            Loaded::Stray => Turned::Stray,
-        },
-        Point::D5 => store(
+        Point::E1 => store(t, s, Word::LevelNode(l), n.0, go(f, Point::E2)),
+        Point::E2 => store(
             t,
             s,
-            Word::Head(q),
-            r.0,
-            go_if_same(f, c.0, q.0, Point::D6, Point::D7),
+            Word::LevelQueue(l),
+            q.0,
+            below_k(with_k(f, l), Point::E7, Point::E3),
         ),
-        Point::D6 => store(t, s, Word::Next(c), 0, go(with_n(f, q.0), Point::E1)),
-        Point::D7 => free(t, s, c, After::Done(c)),
-        _ => Turned::Stray,
+        Point::E3 => match load(t, s, Word::LevelQueue(k)) {
+            Loaded::Value(x) => {
+                if x == q.0 {
+                    Turned::Next(go(f, Point::E4))
+                } else {
+                    Turned::Next(below_k(f, Point::E7, Point::E3))
+                }
+            }
+            Loaded::Stray => Turned::Stray,
+        },
+        Point::E4 => match load(t, s, Word::LevelNode(k)) {
+            Loaded::Value(x) => Turned::Next(go(with_p(f, x), Point::E5)),
+            Loaded::Stray => Turned::Stray,
+        },
+        Point::E5 => match load(t, s, Word::Tail(q)) {
+            Loaded::Value(x) => {
+                if x == p.0 {
+                    Turned::Next(go(f, Point::E6))
+                } else {
+                    Turned::Next(below_m(with_m(f, k), Point::E15, Point::E13))
+                }
+            }
+            Loaded::Stray => Turned::Stray,
+        },
+        Point::E6 => store(
+            t,
+            s,
+            Word::LevelQueue(k),
+            0,
+            below_k(f, Point::E7, Point::E3),
+        ),
+        Point::E7 => match load(t, s, Word::Tail(q)) {
+            Loaded::Value(x) => Turned::Next(go(with_c(f, x), Point::E8)),
+            Loaded::Stray => Turned::Stray,
+        },
+        Point::E8 => match load(t, s, Word::Next(c)) {
+            Loaded::Value(x) => Turned::Next(walk_on(f, Point::E9, x)),
+            Loaded::Stray => Turned::Stray,
+        },
+        Point::E9 => store(t, s, Word::Next(c), n.0, go(with_c(f, n.0), Point::E10)),
+        Point::E10 => match load(t, s, Word::Next(c)) {
+            Loaded::Value(x) => Turned::Next(walk_on(f, Point::E11, x)),
+            Loaded::Stray => Turned::Stray,
+        },
+        Point::E11 => store(t, s, Word::LevelNode(l), c.0, go(f, Point::E12)),
+        Point::E12 => store(t, s, Word::Tail(q), c.0, go(f, Point::E28)),
+        _ => turn_insert(t, s, l, top, f),
     }
 }
 
@@ -491,73 +501,63 @@ fn turn_insert(t: &mut [u16], s: Sizes, l: Level, top: Level, f: Frame) -> Turne
     }
 }
 
-// The step table: the one access of the frame's point, and what follows it. The frame is held beside the table.
-// These are the points from E1 on: an enqueue enters, and where it can, it appends.
-pub fn turn(t: &mut [u16], s: Sizes, l: Level, top: Level, f: Frame) -> Turned
+// The step table from E25 on: an enqueue leaves, and a dequeue.
+fn turn_out(t: &mut [u16], s: Sizes, l: Level, top: Level, f: Frame) -> Turned
     requires { ⌜ Fits s (now t) ⌝ }
+    requires { ⌜ pointIn (entering ++ inserting) (f .point) ≡ Unknown ⌝ }
     ensures { λ r. ⌜ turned s (now (t .entry)) (row (pointOf (f .point)) f l top) ≡ (r, now (t .exit)) ⌝ }
 {
     let point = f.point;
     let q = f.queue;
-    let n = f.node;
-    let k = f.k;
-    let p = f.p;
     let c = f.c;
+    let a = f.a;
+    let r = f.r;
     match point {
-        Point::E1 => store(t, s, Word::LevelNode(l), n.0, go(f, Point::E2)),
-        Point::E2 => store(
-            t,
-            s,
-            Word::LevelQueue(l),
-            q.0,
-            below_k(with_k(f, l), Point::E7, Point::E3),
-        ),
-        Point::E3 => match load(t, s, Word::LevelQueue(k)) {
+        Point::E25 => match load(t, s, Word::Tail(q)) {
+            Loaded::Value(x) => Turned::Next(go_if_same(f, x, a.0, Point::E26, Point::E28)),
+            Loaded::Stray => Turned::Stray,
+        },
+        Point::E26 => store(t, s, Word::LevelNode(l), c.0, go(f, Point::E27)),
+        Point::E27 => store(t, s, Word::Tail(q), c.0, go(f, Point::E28)),
+        Point::E28 => store(t, s, Word::LevelQueue(l), 0, go(f, Point::E29)),
+        Point::E29 => store(t, s, Word::LevelNode(l), 0, end_or_go(f, Point::D1)),
+        Point::D1 => match load(t, s, Word::Head(q)) {
+            Loaded::Value(x) => Turned::Next(go(with_c(f, x), Point::D2)),
+            Loaded::Stray => Turned::Stray,
+        },
+        Point::D2 => match load(t, s, Word::Tail(q)) {
             Loaded::Value(x) => {
-                if x == q.0 {
-                    Turned::Next(go(f, Point::E4))
+                if x == c.0 {
+                    Turned::Next(After::Done(Node(0)))
                 } else {
-                    Turned::Next(below_k(f, Point::E7, Point::E3))
+                    Turned::Next(go(f, Point::D3))
                 }
             }
             Loaded::Stray => Turned::Stray,
         },
-        Point::E4 => match load(t, s, Word::LevelNode(k)) {
-            Loaded::Value(x) => Turned::Next(go(with_p(f, x), Point::E5)),
-            Loaded::Stray => Turned::Stray,
-        },
-        Point::E5 => match load(t, s, Word::Tail(q)) {
+        Point::D3 => match load(t, s, Word::Next(c)) {
             Loaded::Value(x) => {
-                if x == p.0 {
-                    Turned::Next(go(f, Point::E6))
+                if x == 0 {
+                    Turned::Next(After::Done(Node(0)))
                 } else {
-                    Turned::Next(below_m(with_m(f, k), Point::E15, Point::E13))
+                    Turned::Next(go(f, Point::D4))
                 }
             }
             Loaded::Stray => Turned::Stray,
         },
-        Point::E6 => store(
+        Point::D4 => match load(t, s, Word::Next(c)) {
+            Loaded::Value(x) => Turned::Next(go(with_r(f, x), Point::D5)),
+            Loaded::Stray => Turned::Stray,
+        },
+        Point::D5 => store(
             t,
             s,
-            Word::LevelQueue(k),
-            0,
-            below_k(f, Point::E7, Point::E3),
+            Word::Head(q),
+            r.0,
+            go_if_same(f, c.0, q.0, Point::D6, Point::D7),
         ),
-        Point::E7 => match load(t, s, Word::Tail(q)) {
-            Loaded::Value(x) => Turned::Next(go(with_c(f, x), Point::E8)),
-            Loaded::Stray => Turned::Stray,
-        },
-        Point::E8 => match load(t, s, Word::Next(c)) {
-            Loaded::Value(x) => Turned::Next(walk_on(f, Point::E9, x)),
-            Loaded::Stray => Turned::Stray,
-        },
-        Point::E9 => store(t, s, Word::Next(c), n.0, go(with_c(f, n.0), Point::E10)),
-        Point::E10 => match load(t, s, Word::Next(c)) {
-            Loaded::Value(x) => Turned::Next(walk_on(f, Point::E11, x)),
-            Loaded::Stray => Turned::Stray,
-        },
-        Point::E11 => store(t, s, Word::LevelNode(l), c.0, go(f, Point::E12)),
-        Point::E12 => store(t, s, Word::Tail(q), c.0, go(f, Point::E28)),
-        _ => turn_insert(t, s, l, top, f),
+        Point::D6 => store(t, s, Word::Next(c), 0, go(with_n(f, q.0), Point::E1)),
+        Point::D7 => free(t, s, c, After::Done(c)),
+        _ => Turned::Stray,
     }
 }
