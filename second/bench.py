@@ -7,7 +7,7 @@ follow, previous_interrupt_level and find_anchor stand below as they are printed
 
     second/bench.py [FILE]          the log of the schedule in FILE, or on standard input
     second/bench.py --check DIR     hold DIR/stdin, a packed file of schedules, to DIR/stdout, their logs
-    second/bench.py --write DIR     make DIR/stdout (what the packed files look like: corpus/README.md)
+    second/bench.py --write DIR     make DIR/stdout (what the packed files look like: crates/corpus/README.md)
 """
 
 import re
@@ -340,7 +340,7 @@ def log_of(text):
 
 
 # ---------------------------------------------------------------------------------------------------
-# The packed files of corpus/, and the command line.
+# The packed files of crates/corpus/, and the command line.
 
 HEADER = 48
 

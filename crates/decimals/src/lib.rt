@@ -85,7 +85,7 @@ pub fn read_field(text: &[u8], place: usize, end: u8) -> FieldRead
 }
 
 // How many digits n has.
-pub fn width(n: u16) -> usize
+pub fn width(n: usize) -> usize
     ensures { λ r. ⌜ r ≡ widthOf n ⌝ }
 {
     if n < 10 {
@@ -101,14 +101,14 @@ pub fn width(n: u16) -> usize
     }
 }
 
-fn digit(n: u16) -> u8
+fn digit(n: usize) -> u8
     ensures { λ r. ⌜ r ≡ 48 + n % 10 ⌝ }
 {
     48 + (n % 10) as u8
 }
 
 // Writes n's digits from place on, the last one first, and answers the place after them.
-pub fn write_digits(room: &mut [u8], place: usize, n: u16) -> usize
+pub fn write_digits(room: &mut [u8], place: usize, n: usize) -> usize
     requires { ⌜ place + length (digitsOf n) ≤ length (now room) ⌝ }
     ensures { λ r. ⌜ Put r (now (room .exit)) (now (room .entry)) place (digitsOf n) ⌝ }
 {
@@ -127,7 +127,7 @@ pub fn write_field(room: &mut [u8], place: usize, n: u16, end: u8) -> usize
     requires { ⌜ place + length (fieldOf n end) ≤ length (now room) ⌝ }
     ensures { λ r. ⌜ Put r (now (room .exit)) (now (room .entry)) place (fieldOf n end) ⌝ }
 {
-    let at = write_digits(room, place, n);
+    let at = write_digits(room, place, n as usize);
     room[at] = end;
     at + 1
 }

@@ -17,7 +17,7 @@ use words::Queue;
 fn field_length(n: u16) -> usize
     ensures { λ r. ⌜ (r ≡ widthOf n + 1) × (r ≤ 6) ⌝ }
 {
-    decimals::width(n) + 1
+    decimals::width(n as usize) + 1
 }
 
 pub fn event_length(e: Event) -> usize

@@ -1,0 +1,17 @@
+// The bench program: a schedule on standard input, its log on standard output.
+use libc::STDIN_FILENO;
+use libc::STDOUT_FILENO;
+use loglines::Logged;
+
+fn main() {
+    let mut text = [0u8; 65537];
+    let mut table = [0u16; 2276];
+    let mut room = [0u8; 262144];
+    let n = io::read_full(STDIN_FILENO, &mut text);
+    match log::write_log(&text[..n], &mut table, &mut room) {
+        Logged::Bytes(m) => {
+            io::write_all(STDOUT_FILENO, &room[..m]);
+        }
+        Logged::Refused(_) => {}
+    }
+}

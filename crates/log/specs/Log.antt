@@ -1,0 +1,61 @@
+-- The log of a schedule's text, as document 01 says it of the bench program.
+use Prim.Native.Nat.{ℕ, zero, suc}
+use mathlib.Core.List.{List, [], _∷_, _++_}
+use mathlib.Core.Bool.{cond}
+use lib.ListN.{length, getD, take, replicate}
+use lib.Dec.{ltb}
+use Rattle.words.specs.declared.Sizes.{Sizes}
+use Rattle.words.specs.Layout.{queue}
+use Rattle.answers.specs.Said.{Said, refused, says}
+use Rattle.text.specs.declared.Opening.{Opening}
+use Rattle.text.specs.declared.Event.{Event}
+use Rattle.text.specs.Answer.{Answer, gives, refuses}
+use Rattle.schedule.specs.Whole.{scheduleReading}
+use Rattle.fresh.specs.Fresh.{freshOf}
+use Rattle.asks.specs.Listing.{listingOf}
+use Rattle.loglines.specs.Lines.{textLine, sizesLine, queueLine, unquietLine}
+use Rattle.loglines.specs.Written.{written}
+use Rattle.play.specs.Play.{eventsOf}
+
+-- `Q queue` and its listing, or `U queue`
+unfoldable pub listedLine : ℕ → Said ℕ × List ℕ → List ℕ
+listedLine q (says n, nodes) = queueLine q (take n nodes)
+listedLine q (refused r, nodes) = unquietLine q
+
+unfoldable pub queueOf : List ℕ → ℕ → List ℕ
+queueOf t q = listedLine q (listingOf t (queue q) (replicate 1024 0))
+
+-- so many queues from queue q on
+unfoldable pub queuesOf : List ℕ → ℕ → ℕ → List ℕ
+queuesOf t q zero = []
+queuesOf t q (suc n) = queueOf t q ++ queuesOf t (suc q) n
+
+abbrev pub openingSizes : Opening → Sizes
+openingSizes o = record { levels = o .levels; queues = o .queues; nodes = o .nodes }
+
+-- what the events did, and then a line for each queue
+abbrev pub withQueues : Opening → List ℕ × List ℕ → List ℕ × List ℕ
+withQueues o p = (p .0 ++ queuesOf (p .1) 1 (o .queues), p .1)
+
+-- sizes refused: `R 0 2` and nothing more
+unfoldable pub sizedLog : Opening → List Event → Said Unit × List ℕ → List ℕ × List ℕ
+sizedLog o es (refused r, t) = (sizesLine, t)
+sizedLog o es (says _, t) = withQueues o (eventsOf 1 es t)
+
+-- text refused: `T line` and nothing more
+unfoldable pub readLog : List ℕ → Answer (Opening × List Event) → List ℕ × List ℕ
+readLog t (refuses number values) = (textLine (getD values 0 0), t)
+readLog t (gives s) = sizedLog (s .0) (s .1) (freshOf (openingSizes (s .0)) t)
+
+-- the log, and the words of the table t that was lent for the work
+unfoldable pub logText : List ℕ → List ℕ → List ℕ × List ℕ
+logText text t = readLog t (scheduleReading text)
+
+-- the words of the largest table: 16 levels, 8 queues, 1,024 nodes
+abbrev pub largest : ℕ
+largest = 2276
+
+-- refusals 1 for a table of fewer words, and 12; what is answered, the room and the table afterwards
+unfoldable pub logOf : List ℕ → List ℕ → List ℕ → (Said ℕ × List ℕ) × List ℕ
+logOf text t room =
+    cond (ltb (length t) largest) ((refused 1, room), t) (written (logText text t .0) room, logText text t .1)

@@ -1,0 +1,13 @@
+-- What the parts of the log promise each other.
+use Prim.Native.Nat.{ℕ}
+use mathlib.Core.List.{List}
+use Rattle.answers.specs.Said.{Said, refused, says}
+use Rattle.text.specs.declared.Opening.{Opening}
+use Rattle.loglines.specs.Lines.{sizesLine}
+use Rattle.play.specs.Parts.{atPlace}
+use Rattle.log.specs.Log.{withQueues}
+
+-- the log from the fresh table on, the events read from a place of the text
+unfoldable pub placedLog : Opening → List ℕ → ℕ → Said Unit × List ℕ → List ℕ × List ℕ
+placedLog o text place (refused r, t) = (sizesLine, t)
+placedLog o text place (says _, t) = withQueues o (atPlace (o .events) 1 text place t)

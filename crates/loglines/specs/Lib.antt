@@ -1,0 +1,4 @@
+pub mod Lines
+pub mod Written
+pub mod Pen
+pub mod Laws

@@ -1,0 +1,56 @@
+-- The lines of the log, as bytes. Its fixed words are the letters T, R, E, D, Q, U, and `R 0 2` whole.
+use Prim.Native.Nat.{ℕ}
+use mathlib.Core.List.{List, [], _∷_, _++_}
+use mathlib.Core.Bool.{cond}
+use lib.Dec.{eqb}
+use Rattle.decimals.specs.Decimals.{digitsOf, fieldOf}
+use Rattle.text.specs.Text.{lf, space, headE, headD}
+use Rattle.words.specs.declared.Node.{Node}
+use Rattle.answers.specs.declared.End.{End}
+
+abbrev pub headT : List ℕ
+headT = 84 ∷ space ∷ []
+
+abbrev pub headR : List ℕ
+headR = 82 ∷ space ∷ []
+
+abbrev pub headQ : List ℕ
+headQ = 81 ∷ space ∷ []
+
+abbrev pub headU : List ℕ
+headU = 85 ∷ space ∷ []
+
+-- text refused: `T line`
+unfoldable pub textLine : ℕ → List ℕ
+textLine line = headT ++ fieldOf line lf
+
+-- sizes refused: `R 0 2`
+abbrev pub sizesLine : List ℕ
+sizesLine = 82 ∷ space ∷ 48 ∷ space ∷ 50 ∷ lf ∷ []
+
+-- a refused event: `R event number`
+unfoldable pub refusalLine : ℕ → ℕ → List ℕ
+refusalLine event number = headR ++ (fieldOf event space ++ fieldOf number lf)
+
+-- an ended operation: `E level queue node steps` or `D level queue node steps`
+abbrev pub headOf : ℕ → List ℕ
+headOf op = cond (eqb op 1) headE headD
+
+abbrev pub outcomeText : Node → ℕ → List ℕ
+outcomeText n steps = fieldOf (n .0) space ++ fieldOf steps lf
+
+unfoldable pub endLine : End → List ℕ
+endLine e =
+    headOf (e .op) ++ (fieldOf (e .level .0) space ++ (fieldOf (e .queue .0) space ++ outcomeText (e .node) (e .steps)))
+
+unfoldable pub nodesText : List ℕ → List ℕ
+nodesText [] = []
+nodesText (n ∷ ns) = space ∷ (digitsOf n ++ nodesText ns)
+
+-- `Q queue` and its listing
+unfoldable pub queueLine : ℕ → List ℕ → List ℕ
+queueLine q ns = headQ ++ (digitsOf q ++ (nodesText ns ++ (lf ∷ [])))
+
+-- `U queue`
+unfoldable pub unquietLine : ℕ → List ℕ
+unquietLine q = headU ++ fieldOf q lf

@@ -1,0 +1,113 @@
+// The events of a schedule, performed in order; what ends and what is refused goes into the log.
+ghost use mathlib.Core.Path.{_≡_};
+ghost use Rattle.answers.specs.Said.{doneSays};
+ghost use Rattle.loglines.specs.Written.{logSays};
+ghost use Rattle.play.specs.Play.{stepsOf, eventOf};
+ghost use Rattle.play.specs.Parts.{into, atPlace};
+use answers::Done;
+use answers::Ran;
+use loglines::Logged;
+use text::Event;
+use text::EventRead;
+
+// The log so far, and whether the event was refused.
+pub struct Turn {
+    pub log: Logged,
+    pub done: Done,
+}
+
+fn play_steps(table: &mut [u16], room: &mut [u8], log: Logged, count: u16) -> Turn
+    ensures { λ r. ⌜ into (logSays log, now (room .entry)) (stepsOf count (now (table .entry))) ≡ ((logSays (r .log), now (room .exit)), (doneSays (r .done), now (table .exit))) ⌝ }
+{
+    let mut next = log;
+    let mut left = count;
+    while 0 < left {
+        match steps::run(table, left) {
+            Ran::Ended(n, e) => {
+                next = loglines::put_end(room, next, e);
+                left -= n;
+            }
+            Ran::Spent(_) => {
+                return Turn {
+                    log: next,
+                    done: Done::Yes,
+                };
+            }
+            Ran::Idle(_) => {
+                return Turn {
+                    log: next,
+                    done: Done::Refused(9),
+                };
+            }
+            Ran::Damaged(_) => {
+                return Turn {
+                    log: next,
+                    done: Done::Refused(10),
+                };
+            }
+            Ran::Refused(r) => {
+                return Turn {
+                    log: next,
+                    done: Done::Refused(r),
+                };
+            }
+        }
+    }
+    Turn {
+        log: next,
+        done: Done::Yes,
+    }
+}
+
+fn play_event(table: &mut [u16], room: &mut [u8], log: Logged, e: Event) -> Turn
+    ensures { λ r. ⌜ into (logSays log, now (room .entry)) (eventOf e (now (table .entry))) ≡ ((logSays (r .log), now (room .exit)), (doneSays (r .done), now (table .exit))) ⌝ }
+{
+    match e {
+        Event::Enqueue(l, q, n) => {
+            let done = begins::begin_enqueue(table, l, q, n);
+            Turn { log, done }
+        }
+        Event::Dequeue(l, q) => {
+            let done = begins::begin_dequeue(table, l, q);
+            Turn { log, done }
+        }
+        Event::Steps(count) => play_steps(table, room, log, count),
+    }
+}
+
+// So many events of the text from place on.
+pub fn play_events(
+    text: &[u8],
+    place: usize,
+    count: u16,
+    table: &mut [u16],
+    room: &mut [u8],
+    log: Logged,
+) -> Logged
+    ensures { λ r. ⌜ into (logSays log, now (room .entry)) (atPlace count 1 (now (text .entry)) place (now (table .entry))) ≡ ((logSays r, now (room .exit)), now (table .exit)) ⌝ }
+{
+    let mut next = log;
+    let mut at = place;
+    let mut i: u16 = 0;
+    while i < count {
+        i += 1;
+        match text::read_event(text, at) {
+            EventRead::Read(e, after) => {
+                at = after;
+                let turn = play_event(table, room, next, e);
+                next = turn.log;
+                let done = turn.done;
+                match done {
+                    Done::Yes => {}
+                    Done::Refused(r) => {
+                        return loglines::put_refusal(room, next, i, r);
+                    }
+                }
+            }
+            EventRead::Refused(_) => {
+                return next;
+            }
+        }
+    }
+    next
+}

@@ -1,0 +1,1 @@
+// The worked runs of document 01 that are proved: theory only.
