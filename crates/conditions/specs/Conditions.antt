@@ -1,8 +1,8 @@
 -- The refusals of document 01 that several calls share, each by its condition, and the first of a list of them.
 use Prim.Native.Nat.{ℕ, zero, suc, _+_, _-_}
 use mathlib.Core.List.{List, [], _∷_}
-use mathlib.Core.Bool.{Bool, true, false, cond, not, _&&_, _||_}
-use lib.Dec.{ltb, leb, eqb}
+use mathlib.Core.Bool.{Bool, false, cond, not, _&&_, _||_}
+use lib.Dec.{leb, eqb}
 use Rattle.words.specs.declared.Level.{Level}
 use Rattle.words.specs.declared.Queue.{Queue}
 use Rattle.words.specs.declared.Node.{Node}

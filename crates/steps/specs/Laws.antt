@@ -1,24 +1,35 @@
 -- Facts about steps and runs that the code's proofs cite.
-use Prim.Native.Nat.{ℕ, zero, suc, _+_, _-_, _≤_, _<_}
-use mathlib.Core.Path.{_≡_, refl, ap, _∙_}
+use Prim.Native.Nat.{ℕ, zero, suc, _-_, _≤_, _<_}
+use mathlib.Core.Path.{_≡_, refl, ap, sym, _∙_}
 use mathlib.Core.List.{List}
 use mathlib.Core.Bool.{Bool, true, false, cond}
 use native.Mathlib.Omega.{arith}
+use lib.ListN.{length}
 use lib.Dec.{eqb}
 use borrow.Author.Tests.{ne-eqb}
 use Rattle.words.specs.declared.Level.{Level}
-use Rattle.words.specs.declared.Node.{Node}
 use Rattle.words.specs.declared.Sizes.{Sizes}
 use Rattle.words.specs.declared.Frame.{Frame}
 use Rattle.words.specs.declared.Word.{Word}
-use Rattle.words.specs.declared.Word.the-variants.{Next, Use}
-use Rattle.words.specs.Layout.{level, has, rd, wr, frameOf}
-use Rattle.answers.specs.Said.{Said, refused, Step, Run}
-use Rattle.table.specs.Table.{Row, loads, stores, frees, nothing, accessOf, afterOf}
-use Rattle.table.specs.declared.Access.the-variants.{Load, Store, Free, Nothing}
+use Rattle.words.specs.declared.Word.the-variants as word
+use Rattle.words.specs.Layout.{level, words, has, rd, wr, frameOf, putFrame, noFrame}
+use Rattle.words.specs.Laws.{has-use, rd-put, frame-same, put-put, put-wr}
+use Rattle.answers.specs.Said as said
+use Rattle.answers.specs.Said.{Said, refused, says, Step, going-on, ended, Run}
+use Rattle.table.specs.Points.{pointOf}
+use Rattle.table.specs.Frames.{counted}
+use Rattle.table.specs.Table.{Row, loads, stores, frees, nothing, row}
+use Rattle.table.specs.Turn.{turned}
+use Rattle.table.specs.declared.After.{After}
+use Rattle.table.specs.declared.After.the-variants.{Go, Done}
+use Rattle.table.specs.declared.Turned.{Turned}
+use Rattle.table.specs.declared.Turned.the-variants.{Next, Stray}
 use Rattle.steps.specs.declared.Served.the-variants.{At, Nobody}
-use Rattle.steps.specs.Step.{serving, settled, performed, stepSized}
+use Rattle.steps.specs.declared.Held.{Held}
+use Rattle.steps.specs.declared.Held.the-variants.{Damaged}
+use Rattle.steps.specs.Step.{Out, serving, sound, settled, performed, stepFrame, stepServed, stepSized}
 use Rattle.steps.specs.Run.{ranOn, runFrom}
+use Rattle.steps.specs.Held.{followed, follow, held, back, stepOfRun}
 
 -- ---- the search for the level to serve, from i downwards
 
@@ -44,40 +55,80 @@ serving-below s t (suc n) l e = by (eqb (frameOf s t (level n) .op) 0) (serving-
     by true ih h = omega (arith, ih h)
     by false ih h = let z : n ≡ l .0 = cc in omega arith
 
--- ---- a row by the access that the code holds
+-- ---- a step of a frame that is held beside the table
 
-module _ (s : Sizes) (t : List ℕ) (l : Level) (f : Frame) where
-  pub by-load : (r : Row) (w : Word) → accessOf r ≡ Load w
-      → performed s t l f r ≡ cond (has s w) (settled s t l f (afterOf r (rd s t w) f)) (refused 10, t)
-  unfolding performed
-  by-load (loads w′ after) w e = let p : w′ ≡ w = cc in rw p
-  by-load (stores w′ v after) w e = let z : _≡_ {A = ℕ} 0 1 = cc in absurd (omega arith)
-  by-load (frees n after) w e = let z : _≡_ {A = ℕ} 0 1 = cc in absurd (omega arith)
-  by-load nothing w e = let z : _≡_ {A = ℕ} 0 1 = cc in absurd (omega arith)
+module _ (s : Sizes) (t : List ℕ) (l : Level) (f g : Frame) where
+  settled-put : (a : After) → settled s (putFrame s t l f) l g a ≡ settled s t l g a
+  unfolding settled
+  settled-put (Go h) = rw (put-put s t l f h)
+  settled-put (Done n) = rw (put-put s t l f noFrame)
 
-  pub by-store : (r : Row) (w : Word) (v : ℕ) → accessOf r ≡ Store w v
-      → performed s t l f r ≡ cond (has s w) (settled s (wr s t w v) l f (afterOf r 0 f)) (refused 10, t)
-  unfolding performed
-  by-store (loads w′ after) w v e = let z : _≡_ {A = ℕ} 0 1 = cc in absurd (omega arith)
-  by-store (stores w′ v′ after) w v e = let p : w′ ≡ w = cc in let q : v′ ≡ v = cc in rw (p, q)
-  by-store (frees n after) w v e = let z : _≡_ {A = ℕ} 0 1 = cc in absurd (omega arith)
-  by-store nothing w v e = let z : _≡_ {A = ℕ} 0 1 = cc in absurd (omega arith)
+  -- f is the frame that the table has, g the same with this step counted
+  abbrev putBack : Turned × List ℕ → Out
+  putBack x = back s l f (followed l g (x .0)) (x .1)
 
-  pub by-free : (r : Row) (n : Node) → accessOf r ≡ Free n
-      → performed s t l f r
-      ≡ cond (has s (Next n)) (settled s (wr s (wr s t (Next n) 0) (Use n) 0) l f (afterOf r 0 f)) (refused 10, t)
-  unfolding performed
-  by-free (loads w after) n e = let z : _≡_ {A = ℕ} 0 1 = cc in absurd (omega arith)
-  by-free (stores w v after) n e = let z : _≡_ {A = ℕ} 0 1 = cc in absurd (omega arith)
-  by-free (frees m after) n e = let p : m ≡ n = cc in rw p
-  by-free nothing n e = let z : _≡_ {A = ℕ} 0 1 = cc in absurd (omega arith)
+  next-back : (a : After) (u : List ℕ) → settled s u l g a ≡ putBack (Next a, u)
+  unfolding settled back followed
+  next-back (Go h) u = refl
+  next-back (Done n) u = refl
 
-  pub by-nothing : (r : Row) → accessOf r ≡ Nothing → performed s t l f r ≡ (refused 10, t)
-  unfolding performed
-  by-nothing (loads w after) e = let z : _≡_ {A = ℕ} 0 1 = cc in absurd (omega arith)
-  by-nothing (stores w v after) e = let z : _≡_ {A = ℕ} 0 1 = cc in absurd (omega arith)
-  by-nothing (frees n after) e = let z : _≡_ {A = ℕ} 0 1 = cc in absurd (omega arith)
-  by-nothing nothing e = refl
+stored-put : (s : Sizes) (t : List ℕ) (l : Level) (f g : Frame) (a : After) (w : Word) → has s w ≡ true → (v : ℕ)
+    → settled s (wr s (putFrame s t l f) w v) l g a ≡ settled s (wr s t w v) l g a
+stored-put s t l f g a w h v =
+    ap (λ (u : List ℕ). settled s u l g a) (sym (put-wr s t l f w h v)) ∙ settled-put s (wr s t w v) l f g a
+
+module _ (s : Sizes) (t : List ℕ) (l : Level) (f g : Frame) where
+  performed-held : (r : Row) → performed s (putFrame s t l f) l g r ≡ putBack s t l f g (turned s t r)
+  unfolding performed turned back followed
+  performed-held (loads w after) = by (has s w) refl
+    where
+      by : (b : Bool) → has s w ≡ b
+          → cond b (settled s (putFrame s t l f) l g (after (rd s (putFrame s t l f) w))) (refused 10, putFrame s t l f)
+          ≡ putBack s t l f g (cond b (Next (after (rd s t w)), t) (Stray, t))
+      by true h =
+          rw (rd-put s t l f w h) (settled-put s t l f g (after (rd s t w)) ∙ next-back s t l f g (after (rd s t w)) t)
+      by false h = refl
+  performed-held (stores w v after) = by (has s w) refl
+    where
+      by : (b : Bool) → has s w ≡ b
+          → cond b (settled s (wr s (putFrame s t l f) w v) l g after) (refused 10, putFrame s t l f)
+          ≡ putBack s t l f g (cond b (Next after, wr s t w v) (Stray, t))
+      by true h = stored-put s t l f g after w h v ∙ next-back s t l f g after (wr s t w v)
+      by false h = refl
+  performed-held (frees n after) = by (has s (word.Next n)) refl
+    where
+      u : List ℕ
+      u = wr s t (word.Next n) 0
+
+      by : (b : Bool) → has s (word.Next n) ≡ b
+          → cond b (settled s (wr s (wr s (putFrame s t l f) (word.Next n) 0) (word.Use n) 0) l g after) (refused 10, putFrame s t l f)
+          ≡ putBack s t l f g (cond b (Next after, wr s (wr s t (word.Next n) 0) (word.Use n) 0) (Stray, t))
+      by true h =
+          ap (λ (x : List ℕ). settled s (wr s x (word.Use n) 0) l g after) (sym (put-wr s t l f (word.Next n) h 0))
+          ∙ stored-put s u l f g after (word.Use n) (has-use s n h) 0
+          ∙ next-back s t l f g after (wr s u (word.Use n) 0)
+      by false h = refl
+  performed-held nothing = refl
+
+-- the step of a table is that of its frame held beside it, put back
+step-held : (s : Sizes) (t : List ℕ) (l : Level) (f : Frame) → words s ≤ length t → l .0 < s .levels
+    → serving s (putFrame s t l f) (s .levels) ≡ At l
+    → stepSized s (putFrame s t l f) ≡ back s l f (held s t l (counted f) .0) (held s t l (counted f) .1)
+unfolding stepSized stepServed stepFrame held back
+step-held s t l f room h e =
+    rw (e, frame-same s t l f room h) (by (sound s (counted f)))
+  where
+    g : Frame
+    g = counted f
+
+    r : Row
+    r = row (pointOf (g .point)) g l (level (s .levels))
+
+    by : (b : Bool)
+        → cond b (performed s (putFrame s t l f) l g r) (refused 10, putFrame s t l f)
+        ≡ back s l f (cond b (follow l g (turned s t r)) (Damaged, t) .0) (cond b (follow l g (turned s t r)) (Damaged, t) .1)
+    by true = performed-held s t l f g r
+    by false = refl
 
 -- ---- one more step of a run, by what it says
 
@@ -86,3 +137,65 @@ pub run-more : (s : Sizes) (left b n : ℕ) (t u : List ℕ) (x : Said Step) →
 unfolding runFrom
 run-more s zero b n t u x e h k = absurd (omega arith)
 run-more s (suc i) b n t u x e h k = let p : i ≡ b = omega arith in rw (p, k)
+
+-- and by the step of a held frame
+pub run-held : (s : Sizes) (left b n : ℕ) (t u : List ℕ) (l : Level) (f : Frame) (h : Held) → words s ≤ length t → l .0 < s .levels
+    → serving s (putFrame s t l f) (s .levels) ≡ At l → b ≡ left - 1 → 0 < left → held s t l (counted f) ≡ (h, u)
+    → runFrom s left n (putFrame s t l f) ≡ ranOn n (runFrom s b) (back s l f h u .0) (back s l f h u .1)
+run-held s left b n t u l f h room below e p q k =
+    run-more s left b n (putFrame s t l f) (back s l f h u .1) (back s l f h u .0) p q
+    (step-held s t l f room below e ∙ ap (λ (x : Held × List ℕ). back s l f (x .0) (x .1)) k)
+
+pub run-idle : (s : Sizes) (budget : ℕ) (t : List ℕ) → (budget ≡ 0 → ⊥) → serving s t (s .levels) ≡ Nobody
+    → runFrom s budget 0 t ≡ (says (said.after 0 said.nothing-runs), t)
+unfolding runFrom ranOn stepSized stepServed
+run-idle s zero t h e = absurd (h refl)
+run-idle s (suc b) t h e = rw e
+
+-- ---- a step by a run of one
+
+-- a step of a level that runs is refused by 10 only
+Only10 : Said Step → Type 0
+Only10 (refused r) = r ≡ 10
+Only10 (says x) = Unit
+
+settled-only : (s : Sizes) (t : List ℕ) (l : Level) (f : Frame) (a : After) → Only10 (settled s t l f a .0)
+unfolding settled Only10
+settled-only s t l f (Go g) = tt
+settled-only s t l f (Done n) = tt
+
+either-only : (b : Bool) (x : Out) (t : List ℕ) → Only10 (x .0) → Only10 (cond b x (refused 10, t) .0)
+unfolding Only10
+either-only true x t h = h
+either-only false x t h = refl
+
+performed-only : (s : Sizes) (t : List ℕ) (l : Level) (f : Frame) (r : Row) → Only10 (performed s t l f r .0)
+unfolding performed Only10
+performed-only s t l f (loads w after) =
+    either-only (has s w) (settled s t l f (after (rd s t w))) t (settled-only s t l f (after (rd s t w)))
+performed-only s t l f (stores w v after) =
+    either-only (has s w) (settled s (wr s t w v) l f after) t (settled-only s (wr s t w v) l f after)
+performed-only s t l f (frees n after) =
+    let u = wr s (wr s t (word.Next n) 0) (word.Use n) 0 in
+    either-only (has s (word.Next n)) (settled s u l f after) t (settled-only s u l f after)
+performed-only s t l f nothing = refl
+
+served-only : (s : Sizes) (t : List ℕ) (l : Level) → serving s t (s .levels) ≡ At l → Only10 (stepSized s t .0)
+unfolding stepSized stepServed stepFrame
+served-only s t l e =
+    let g = counted (frameOf s t l) in
+    let r = row (pointOf (g .point)) g l (level (s .levels)) in
+    rw e (either-only (sound s g) (performed s t l g r) t (performed-only s t l g r))
+
+pub step-of-run : (s : Sizes) (t u : List ℕ) (l : Level) (y : Said Run) → serving s t (s .levels) ≡ At l
+    → runFrom s 1 0 t ≡ (y, u) → stepSized s t ≡ (stepOfRun y, u)
+unfolding runFrom ranOn Only10
+step-of-run s t u l y e h = by (stepSized s t .0) (stepSized s t .1) (served-only s t l e) h
+  where
+    of : Said Run × List ℕ → Out
+    of z = (stepOfRun (z .0), z .1)
+
+    by : (x : Said Step) (v : List ℕ) → Only10 x → ranOn 0 (runFrom s 0) x v ≡ (y, u) → _≡_ {A = Out} (x, v) (stepOfRun y, u)
+    by (says going-on) v o k = ap of k
+    by (says (ended e)) v o k = ap of k
+    by (refused n) v o k = rw o (ap of (rw o at k))

@@ -1,3 +1,6 @@
 pub mod Step
 pub mod Run
+pub mod Held
 pub mod Laws
+pub mod Keeping
+pub mod Holding

@@ -2,7 +2,7 @@
 use Prim.Native.Nat.{ℕ, zero, suc}
 use mathlib.Core.List.{List}
 use mathlib.Core.Bool.{Bool, cond, not, _&&_}
-use lib.Dec.{ltb, leb, eqb}
+use lib.Dec.{leb, eqb}
 use Rattle.words.specs.declared.Level.{Level}
 use Rattle.words.specs.declared.Node.{Node}
 use Rattle.words.specs.declared.Sizes.{Sizes}

@@ -1,30 +1,32 @@
 // One step of the highest level that runs, and a run of steps with a budget.
 ghost use mathlib.Core.Path.{_≡_};
-ghost use mathlib.Core.Bool.{true};
-ghost use Prim.Native.Nat.{_<_};
-ghost use Rattle.words.specs.Layout.{level, frameOf};
 ghost use Rattle.words.specs.Inner.{Fits};
 ghost use Rattle.answers.specs.Said.{stepSays, runSays};
-ghost use Rattle.table.specs.Points.{pointOf};
-ghost use Rattle.table.specs.Table.{row};
-ghost use Rattle.steps.specs.Step.{serving, strays, sound, settled, performed, stepFrame, stepSized, stepOf};
+ghost use Rattle.steps.specs.declared.Served.the-variants.{At};
+ghost use Rattle.steps.specs.Step.{serving, strays, sound, stepSized, stepOf};
 ghost use Rattle.steps.specs.Run.{runFrom, runOf};
+ghost use Rattle.steps.specs.Held.{followed, held, stepOfRun};
 use answers::End;
 use answers::Ran;
 use answers::Stepped;
-use table::Access;
 use table::After;
 use table::Point;
+use table::Turned;
 use words::Frame;
 use words::Level;
 use words::Measured;
-use words::Node;
 use words::Sizes;
-use words::Word;
 
 pub enum Served {
     At(Level),
     Nobody,
+}
+
+// What a step leaves of a frame that is held beside the table.
+pub enum Held {
+    Going(Frame),
+    Ended(End),
+    Damaged,
 }
 
 // The highest level whose op is not 0.
@@ -69,89 +71,89 @@ fn is_sound(s: Sizes, f: Frame) -> bool
     }
 }
 
-// Puts the frame back as it became, or clears it where the operation ended.
-fn settle(t: &mut [u16], s: Sizes, l: Level, f: Frame, next: After) -> Stepped
-    requires { ⌜ Fits s (now t) ⌝ }
-    requires { ⌜ l .0 < s .levels ⌝ }
-    ensures { λ r. ⌜ settled s (now (t .entry)) l f next ≡ (stepSays r, now (t .exit)) ⌝ }
+fn follow(l: Level, f: Frame, x: Turned) -> Held
+    ensures { λ r. ⌜ r ≡ followed l f x ⌝ }
 {
-    match next {
-        After::Go(g) => {
-            words::write_frame(t, s, l, g);
-            Stepped::GoingOn
-        }
-        After::Done(n) => {
-            words::write_frame(t, s, l, words::no_frame());
-            let q = f.queue;
-            Stepped::Ended(End {
-                op: f.op,
-                level: l,
-                queue: q,
-                node: n,
-                steps: f.steps,
-            })
-        }
+    match x {
+        Turned::Next(next) => match next {
+            After::Go(g) => Held::Going(g),
+            After::Done(n) => {
+                let q = f.queue;
+                Held::Ended(End {
+                    op: f.op,
+                    level: l,
+                    queue: q,
+                    node: n,
+                    steps: f.steps,
+                })
+            }
+        },
+        Turned::Stray => Held::Damaged,
     }
 }
 
-// The access of the frame's point, if its word is one of the table's, and what follows it.
-fn perform(t: &mut [u16], s: Sizes, l: Level, f: Frame) -> Stepped
+// The step of a frame that is held beside the table.
+fn hold(t: &mut [u16], s: Sizes, l: Level, f: Frame) -> Held
     requires { ⌜ Fits s (now t) ⌝ }
-    requires { ⌜ l .0 < s .levels ⌝ }
-    ensures { λ r. ⌜ performed s (now (t .entry)) l f (row (pointOf (f .point)) f l (level (s .levels))) ≡ (stepSays r, now (t .exit)) ⌝ }
-{
-    let top = Level(words::narrow(s.levels));
-    match table::access_of(f, l, top) {
-        Access::Load(w) => {
-            if words::has_word(s, w) {
-                let x = words::load(t, s, w);
-                settle(t, s, l, f, table::after_of(f, l, top, x))
-            } else {
-                Stepped::Refused(10)
-            }
-        }
-        Access::Store(w, v) => {
-            if words::has_word(s, w) {
-                words::store(t, s, w, v);
-                settle(t, s, l, f, table::after_of(f, l, top, 0))
-            } else {
-                Stepped::Refused(10)
-            }
-        }
-        Access::Free(n) => {
-            if words::has_word(s, Word::Next(n)) {
-                words::store(t, s, Word::Next(n), 0);
-                words::store(t, s, Word::Use(n), 0);
-                settle(t, s, l, f, table::after_of(f, l, top, 0))
-            } else {
-                Stepped::Refused(10)
-            }
-        }
-        Access::Nothing => Stepped::Refused(10),
-    }
-}
-
-fn step_frame(t: &mut [u16], s: Sizes, l: Level, f: Frame) -> Stepped
-    requires { ⌜ Fits s (now t) ⌝ }
-    requires { ⌜ l .0 < s .levels ⌝ }
-    ensures { λ r. ⌜ stepFrame s (now (t .entry)) l f ≡ (stepSays r, now (t .exit)) ⌝ }
+    ensures { λ r. ⌜ held s (now (t .entry)) l f ≡ (r, now (t .exit)) ⌝ }
 {
     if is_sound(s, f) {
-        perform(t, s, l, f)
+        let top = Level(words::narrow(s.levels));
+        follow(l, f, table::turn(t, s, l, top, f))
     } else {
-        Stepped::Refused(10)
+        Held::Damaged
     }
 }
 
+// A run of level l, which is served throughout: its frame is held beside the table and put back at the end.
+fn run_level(t: &mut [u16], s: Sizes, l: Level, budget: u16) -> Ran
+    requires { ⌜ Fits s (now t) ⌝ }
+    requires { ⌜ serving s (now t) (s .levels) ≡ At l ⌝ }
+    ensures { λ r. ⌜ runFrom s budget 0 (now (t .entry)) ≡ (runSays r, now (t .exit)) ⌝ }
+{
+    let mut f = words::read_frame(t, s, l);
+    let mut left = budget;
+    let mut n: u16 = 0;
+    while 0 < left {
+        match hold(t, s, l, table::count_step(f)) {
+            Held::Going(g) => {
+                f = g;
+                left -= 1;
+                n += 1;
+            }
+            Held::Ended(e) => {
+                words::write_frame(t, s, l, words::no_frame());
+                return Ran::Ended(n + 1, e);
+            }
+            Held::Damaged => {
+                words::write_frame(t, s, l, f);
+                return Ran::Damaged(n);
+            }
+        }
+    }
+    words::write_frame(t, s, l, f);
+    Ran::Spent(n)
+}
+
+fn step_of_run(r: Ran) -> Stepped
+    ensures { λ a. ⌜ stepSays a ≡ stepOfRun (runSays r) ⌝ }
+{
+    match r {
+        Ran::Ended(_, e) => Stepped::Ended(e),
+        Ran::Spent(_) => Stepped::GoingOn,
+        Ran::Idle(_) => Stepped::Refused(9),
+        Ran::Damaged(_) => Stepped::Refused(10),
+        Ran::Refused(x) => Stepped::Refused(x),
+    }
+}
+
+// A step is a run of one.
 fn step_sized(t: &mut [u16], s: Sizes) -> Stepped
     requires { ⌜ Fits s (now t) ⌝ }
     ensures { λ r. ⌜ stepSized s (now (t .entry)) ≡ (stepSays r, now (t .exit)) ⌝ }
 {
     match find_served(t, s) {
-        Served::At(l) => {
-            let f = table::count_step(words::read_frame(t, s, l));
-            step_frame(t, s, l, f)
-        }
+        Served::At(l) => step_of_run(run_level(t, s, l, 1)),
         Served::Nobody => Stepped::Refused(9),
     }
 }
@@ -170,26 +172,13 @@ fn run_sized(t: &mut [u16], s: Sizes, budget: u16) -> Ran
     requires { ⌜ Fits s (now t) ⌝ }
     ensures { λ r. ⌜ runFrom s budget 0 (now (t .entry)) ≡ (runSays r, now (t .exit)) ⌝ }
 {
-    let mut left = budget;
-    let mut n: u16 = 0;
-    while 0 < left {
-        match step_sized(t, s) {
-            Stepped::GoingOn => {
-                left -= 1;
-                n += 1;
-            }
-            Stepped::Ended(e) => {
-                return Ran::Ended(n + 1, e);
-            }
-            Stepped::Refused(r) => {
-                if r == 9 {
-                    return Ran::Idle(n);
-                }
-                return Ran::Damaged(n);
-            }
-        }
+    if budget == 0 {
+        return Ran::Spent(0);
     }
-    Ran::Spent(n)
+    match find_served(t, s) {
+        Served::At(l) => run_level(t, s, l, budget),
+        Served::Nobody => Ran::Idle(0),
+    }
 }
 
 // A run of at most budget steps.

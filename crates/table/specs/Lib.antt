@@ -1,4 +1,5 @@
 pub mod Points
 pub mod Frames
 pub mod Table
+pub mod Turn
 pub mod Laws

@@ -47,8 +47,6 @@ use Rattle.table.specs.Points.{
   Unknown,
 }
 use Rattle.table.specs.Frames.{setN, setK, setP, setC, setA, setR, setM, ifEq, to, belowK, belowM, walk, ends}
-use Rattle.table.specs.declared.Access.{Access}
-use Rattle.table.specs.declared.Access.the-variants.{Load, Store, Free, Nothing}
 use Rattle.table.specs.declared.After.{After}
 use Rattle.table.specs.declared.After.the-variants.{Go}
 
@@ -101,17 +99,3 @@ row D5 f l top = stores (Head (f .queue)) (f .r .0) (ifEq (f .c .0) (f .queue .0
 row D6 f l top = stores (Next (f .c)) 0 (to E1 (setN (f .queue .0) f))
 row D7 f l top = frees (f .c) (ends (f .c .0))
 row Unknown f l top = nothing
-
--- a row's access, as the code holds it
-abbrev pub accessOf : Row → Access
-accessOf (loads w after) = Load w
-accessOf (stores w v after) = Store w v
-accessOf (frees n after) = Free n
-accessOf nothing = Nothing
-
--- what follows a row's access; x is what was loaded
-abbrev pub afterOf : Row → ℕ → Frame → After
-afterOf (loads w after) x f = after x
-afterOf (stores w v after) x f = after
-afterOf (frees n after) x f = after
-afterOf nothing x f = Go f

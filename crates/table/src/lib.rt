@@ -1,12 +1,30 @@
 // The points and the step table.
 ghost use mathlib.Core.Path.{_≡_};
-ghost use mathlib.Core.List.{map};
-ghost use Rattle.table.specs.Points.{pointOf, numberOf, points};
-ghost use Rattle.table.specs.Frames.{setN, setK, setP, setC, setA, setR, setM, counted, goTo, belowKTo, belowMTo, walkTo};
-ghost use Rattle.table.specs.Table.{row, accessOf, afterOf};
+ghost use mathlib.Core.List.{map, _++_};
+ghost use Rattle.table.specs.Points.{Unknown, pointIn, pointOf, numberOf, points};
+ghost use Rattle.words.specs.Inner.{Fits};
+ghost use Rattle.table.specs.Frames.{
+  setN,
+  setK,
+  setP,
+  setC,
+  setA,
+  setR,
+  setM,
+  counted,
+  ifEq,
+  goTo,
+  belowKTo,
+  belowMTo,
+  walkTo,
+  ends,
+};
+ghost use Rattle.table.specs.Table.{stores, frees, row};
+ghost use Rattle.table.specs.Turn.{entering, inserting, loaded, turned};
 use words::Frame;
 use words::Level;
 use words::Node;
+use words::Sizes;
 use words::Word;
 
 // A point of the step table, by the number that a frame holds.
@@ -130,72 +148,36 @@ pub fn numbers() -> [u16; 36]
     ]
 }
 
-// What a point loads or stores.
-pub enum Access {
-    Load(Word),
-    Store(Word, u16),
-    // next and use of the node become 0
-    Free(Node),
-    Nothing,
-}
-
-// What follows: the frame as it goes on, or the operation's end with its node, 0 for empty.
+// What follows an access: the frame as it goes on, or the operation's end with its node, 0 for empty.
 pub enum After {
     Go(Frame),
     Done(Node),
 }
 
-// The access of the frame's point, by the step table.
-pub fn access_of(f: Frame, l: Level, top: Level) -> Access
-    ensures { λ r. ⌜ r ≡ accessOf (row (pointOf (f .point)) f l top) ⌝ }
+// The same frame, made again word by word: a compiler then keeps its words apart, where it would copy them together.
+fn apart(f: Frame) -> Frame
+    ensures { λ r. ⌜ r ≡ f ⌝ }
 {
-    let point = f.point;
-    let q = f.queue;
-    let n = f.node;
+    let queue = f.queue;
+    let node = f.node;
     let k = f.k;
     let p = f.p;
     let c = f.c;
     let a = f.a;
     let r = f.r;
     let m = f.m;
-    match point {
-        Point::E1 => Access::Store(Word::LevelNode(l), n.0),
-        Point::E2 => Access::Store(Word::LevelQueue(l), q.0),
-        Point::E3 => Access::Load(Word::LevelQueue(k)),
-        Point::E4 => Access::Load(Word::LevelNode(k)),
-        Point::E5 => Access::Load(Word::Tail(q)),
-        Point::E6 => Access::Store(Word::LevelQueue(k), 0),
-        Point::E7 => Access::Load(Word::Tail(q)),
-        Point::E8 => Access::Load(Word::Next(c)),
-        Point::E9 => Access::Store(Word::Next(c), n.0),
-        Point::E10 => Access::Load(Word::Next(c)),
-        Point::E11 => Access::Store(Word::LevelNode(l), c.0),
-        Point::E12 => Access::Store(Word::Tail(q), c.0),
-        Point::E13 => Access::Load(Word::LevelQueue(m)),
-        Point::E14 => Access::Load(Word::LevelNode(m)),
-        Point::E15 => Access::Load(Word::Tail(q)),
-        Point::E16 => Access::Load(Word::Next(c)),
-        Point::E17 => Access::Load(Word::Next(p)),
-        Point::E18 => Access::Store(Word::Next(p), n.0),
-        Point::E19 => Access::Load(Word::Next(c)),
-        Point::E20 => Access::Store(Word::Next(c), r.0),
-        Point::E21 => Access::Load(Word::Next(a)),
-        Point::E22 => Access::Store(Word::Next(a), n.0),
-        Point::E23 => Access::Load(Word::Next(c)),
-        Point::E24 => Access::Store(Word::Next(c), r.0),
-        Point::E25 => Access::Load(Word::Tail(q)),
-        Point::E26 => Access::Store(Word::LevelNode(l), c.0),
-        Point::E27 => Access::Store(Word::Tail(q), c.0),
-        Point::E28 => Access::Store(Word::LevelQueue(l), 0),
-        Point::E29 => Access::Store(Word::LevelNode(l), 0),
-        Point::D1 => Access::Load(Word::Head(q)),
-        Point::D2 => Access::Load(Word::Tail(q)),
-        Point::D3 => Access::Load(Word::Next(c)),
-        Point::D4 => Access::Load(Word::Next(c)),
-        Point::D5 => Access::Store(Word::Head(q), r.0),
-        Point::D6 => Access::Store(Word::Next(c), 0),
-        Point::D7 => Access::Free(c),
-        _ => Access::Nothing,
+    Frame {
+        op: f.op,
+        point: f.point,
+        queue,
+        node,
+        k,
+        p,
+        c,
+        a,
+        r,
+        m,
+        steps: f.steps,
     }
 }
 
@@ -204,14 +186,14 @@ fn with_n(mut f: Frame, v: u16) -> Frame
 {
     let w = Node(v);
     f.node = w;
-    f
+    apart(f)
 }
 
 fn with_k(mut f: Frame, v: Level) -> Frame
     ensures { λ r. ⌜ r ≡ setK v f ⌝ }
 {
     f.k = v;
-    f
+    apart(f)
 }
 
 fn with_p(mut f: Frame, v: u16) -> Frame
@@ -219,7 +201,7 @@ fn with_p(mut f: Frame, v: u16) -> Frame
 {
     let w = Node(v);
     f.p = w;
-    f
+    apart(f)
 }
 
 fn with_c(mut f: Frame, v: u16) -> Frame
@@ -227,7 +209,7 @@ fn with_c(mut f: Frame, v: u16) -> Frame
 {
     let w = Node(v);
     f.c = w;
-    f
+    apart(f)
 }
 
 fn with_a(mut f: Frame, v: u16) -> Frame
@@ -235,7 +217,7 @@ fn with_a(mut f: Frame, v: u16) -> Frame
 {
     let w = Node(v);
     f.a = w;
-    f
+    apart(f)
 }
 
 fn with_r(mut f: Frame, v: u16) -> Frame
@@ -243,14 +225,14 @@ fn with_r(mut f: Frame, v: u16) -> Frame
 {
     let w = Node(v);
     f.r = w;
-    f
+    apart(f)
 }
 
 fn with_m(mut f: Frame, v: Level) -> Frame
     ensures { λ r. ⌜ r ≡ setM v f ⌝ }
 {
     f.m = v;
-    f
+    apart(f)
 }
 
 // One step more; 65,535 stays.
@@ -260,9 +242,9 @@ pub fn count_step(mut f: Frame) -> Frame
     let n = f.steps;
     if n < 65535 {
         f.steps = n + 1;
-        f
+        apart(f)
     } else {
-        f
+        apart(f)
     }
 }
 
@@ -270,7 +252,22 @@ fn go(mut f: Frame, x: u16) -> After
     ensures { λ r. ⌜ r ≡ goTo x f ⌝ }
 {
     f.point = x;
-    After::Go(f)
+    After::Go(apart(f))
+}
+
+// To x if a is b, else to y.
+fn go_if_same(f: Frame, a: u16, b: u16, x: u16, y: u16) -> After
+    ensures { λ r. ⌜ r ≡ ifEq a b (goTo x f) (goTo y f) ⌝ }
+{
+    if a == b { go(f, x) } else { go(f, y) }
+}
+
+// An enqueue ends with its node; a dequeue goes to x.
+fn end_or_go(f: Frame, x: u16) -> After
+    ensures { λ r. ⌜ r ≡ ifEq (f .op) 1 (ends (f .node .0)) (goTo x f) ⌝ }
+{
+    let n = f.node;
+    if f.op == 1 { After::Done(n) } else { go(f, x) }
 }
 
 // Below k: to x if k is 0, else take 1 from k and go to y.
@@ -307,123 +304,260 @@ fn walk_on(f: Frame, x: u16, v: u16) -> After
     }
 }
 
-// What follows the access of the frame's point; x is what was loaded.
-pub fn after_of(f: Frame, l: Level, top: Level, x: u16) -> After
-    ensures { λ r. ⌜ r ≡ afterOf (row (pointOf (f .point)) f l top) x f ⌝ }
+// A word's value, or Stray where it is not one of the table's.
+pub enum Loaded {
+    Value(u16),
+    Stray,
+}
+
+// What follows an access, or Stray where its word is not one of the table's.
+pub enum Turned {
+    Next(After),
+    Stray,
+}
+
+fn load(t: &[u16], s: Sizes, w: Word) -> Loaded
+    requires { ⌜ Fits s (now t) ⌝ }
+    ensures { λ r. ⌜ r ≡ loaded s (now (t .entry)) w ⌝ }
+{
+    if words::has_word(s, w) {
+        Loaded::Value(words::load(t, s, w))
+    } else {
+        Loaded::Stray
+    }
+}
+
+fn store(t: &mut [u16], s: Sizes, w: Word, v: u16, next: After) -> Turned
+    requires { ⌜ Fits s (now t) ⌝ }
+    ensures { λ r. ⌜ turned s (now (t .entry)) (stores w v next) ≡ (r, now (t .exit)) ⌝ }
+{
+    if words::has_word(s, w) {
+        words::store(t, s, w, v);
+        Turned::Next(next)
+    } else {
+        Turned::Stray
+    }
+}
+
+// The node's next and use become 0.
+fn free(t: &mut [u16], s: Sizes, n: Node, next: After) -> Turned
+    requires { ⌜ Fits s (now t) ⌝ }
+    ensures { λ r. ⌜ turned s (now (t .entry)) (frees n next) ≡ (r, now (t .exit)) ⌝ }
+{
+    if words::has_word(s, Word::Next(n)) {
+        words::store(t, s, Word::Next(n), 0);
+        words::store(t, s, Word::Use(n), 0);
+        Turned::Next(next)
+    } else {
+        Turned::Stray
+    }
+}
+
+// The step table: the one access of the frame's point, and what follows it. The frame is held beside the table.
+// These are the points from E1 on: an enqueue enters, and where it can, it appends.
+pub fn turn(t: &mut [u16], s: Sizes, l: Level, top: Level, f: Frame) -> Turned
+    requires { ⌜ Fits s (now t) ⌝ }
+    ensures { λ r. ⌜ turned s (now (t .entry)) (row (pointOf (f .point)) f l top) ≡ (r, now (t .exit)) ⌝ }
 {
     let point = f.point;
-    let q = f.queue.0;
-    let n = f.node.0;
+    let q = f.queue;
+    let n = f.node;
     let k = f.k;
-    let p = f.p.0;
-    let c = f.c.0;
-    let a = f.a.0;
-    let m = f.m.0;
+    let p = f.p;
+    let c = f.c;
     match point {
-        Point::E1 => go(f, Point::E2),
-        Point::E2 => below_k(with_k(f, l), Point::E7, Point::E3),
-        Point::E3 => {
-            if x == q {
-                go(f, Point::E4)
-            } else {
-                below_k(f, Point::E7, Point::E3)
-            }
-        }
-        Point::E4 => go(with_p(f, x), Point::E5),
-        Point::E5 => {
-            if x == p {
-                go(f, Point::E6)
-            } else {
-                below_m(with_m(f, k), Point::E15, Point::E13)
-            }
-        }
-        Point::E6 => below_k(f, Point::E7, Point::E3),
-        Point::E7 => go(with_c(f, x), Point::E8),
-        Point::E8 => walk_on(f, Point::E9, x),
-        Point::E9 => go(with_c(f, n), Point::E10),
-        Point::E10 => walk_on(f, Point::E11, x),
-        Point::E11 => go(f, Point::E12),
-        Point::E12 => go(f, Point::E28),
-        Point::E13 => {
-            if x == q {
-                go(f, Point::E14)
-            } else {
-                below_m(f, Point::E15, Point::E13)
-            }
-        }
-        Point::E14 => {
-            if x == 0 {
-                below_m(with_c(f, x), Point::E15, Point::E13)
-            } else {
-                go(with_c(f, x), Point::E16)
-            }
-        }
-        Point::E15 => go(with_m(with_c(f, x), top), Point::E16),
-        Point::E16 => {
-            if x == p {
-                go(with_a(f, c), Point::E21)
-            } else {
-                if x == 0 {
-                    if m == top.0 {
-                        go(f, Point::E17)
-                    } else {
-                        below_m(f, Point::E15, Point::E13)
-                    }
+        Point::E1 => store(t, s, Word::LevelNode(l), n.0, go(f, Point::E2)),
+        Point::E2 => store(
+            t,
+            s,
+            Word::LevelQueue(l),
+            q.0,
+            below_k(with_k(f, l), Point::E7, Point::E3),
+        ),
+        Point::E3 => match load(t, s, Word::LevelQueue(k)) {
+            Loaded::Value(x) => {
+                if x == q.0 {
+                    Turned::Next(go(f, Point::E4))
                 } else {
-                    After::Go(with_c(f, x))
+                    Turned::Next(below_k(f, Point::E7, Point::E3))
                 }
             }
-        }
-        Point::E17 => go(with_r(f, x), Point::E18),
-        Point::E18 => go(with_c(f, n), Point::E19),
-        Point::E19 => walk_on(f, Point::E20, x),
-        Point::E20 => go(f, Point::E28),
-        Point::E21 => go(with_r(f, x), Point::E22),
-        Point::E22 => go(with_c(f, n), Point::E23),
-        Point::E23 => walk_on(f, Point::E24, x),
-        Point::E24 => go(f, Point::E25),
-        Point::E25 => {
-            if x == a {
-                go(f, Point::E26)
-            } else {
-                go(f, Point::E28)
+            Loaded::Stray => Turned::Stray,
+        },
+        Point::E4 => match load(t, s, Word::LevelNode(k)) {
+            Loaded::Value(x) => Turned::Next(go(with_p(f, x), Point::E5)),
+            Loaded::Stray => Turned::Stray,
+        },
+        Point::E5 => match load(t, s, Word::Tail(q)) {
+            Loaded::Value(x) => {
+                if x == p.0 {
+                    Turned::Next(go(f, Point::E6))
+                } else {
+                    Turned::Next(below_m(with_m(f, k), Point::E15, Point::E13))
+                }
             }
-        }
-        Point::E26 => go(f, Point::E27),
-        Point::E27 => go(f, Point::E28),
-        Point::E28 => go(f, Point::E29),
-        Point::E29 => {
-            if f.op == 1 {
-                After::Done(Node(n))
-            } else {
-                go(f, Point::D1)
+            Loaded::Stray => Turned::Stray,
+        },
+        Point::E6 => store(
+            t,
+            s,
+            Word::LevelQueue(k),
+            0,
+            below_k(f, Point::E7, Point::E3),
+        ),
+        Point::E7 => match load(t, s, Word::Tail(q)) {
+            Loaded::Value(x) => Turned::Next(go(with_c(f, x), Point::E8)),
+            Loaded::Stray => Turned::Stray,
+        },
+        Point::E8 => match load(t, s, Word::Next(c)) {
+            Loaded::Value(x) => Turned::Next(walk_on(f, Point::E9, x)),
+            Loaded::Stray => Turned::Stray,
+        },
+        Point::E9 => store(t, s, Word::Next(c), n.0, go(with_c(f, n.0), Point::E10)),
+        Point::E10 => match load(t, s, Word::Next(c)) {
+            Loaded::Value(x) => Turned::Next(walk_on(f, Point::E11, x)),
+            Loaded::Stray => Turned::Stray,
+        },
+        Point::E11 => store(t, s, Word::LevelNode(l), c.0, go(f, Point::E12)),
+        Point::E12 => store(t, s, Word::Tail(q), c.0, go(f, Point::E28)),
+        _ => turn_insert(t, s, l, top, f),
+    }
+}
+
+// The step table from E13 on: an enqueue looks for its place in a chain, and takes it.
+fn turn_insert(t: &mut [u16], s: Sizes, l: Level, top: Level, f: Frame) -> Turned
+    requires { ⌜ Fits s (now t) ⌝ }
+    requires { ⌜ pointIn entering (f .point) ≡ Unknown ⌝ }
+    ensures { λ r. ⌜ turned s (now (t .entry)) (row (pointOf (f .point)) f l top) ≡ (r, now (t .exit)) ⌝ }
+{
+    let point = f.point;
+    let q = f.queue;
+    let n = f.node;
+    let p = f.p;
+    let c = f.c;
+    let a = f.a;
+    let r = f.r;
+    let m = f.m;
+    match point {
+        Point::E13 => match load(t, s, Word::LevelQueue(m)) {
+            Loaded::Value(x) => {
+                if x == q.0 {
+                    Turned::Next(go(f, Point::E14))
+                } else {
+                    Turned::Next(below_m(f, Point::E15, Point::E13))
+                }
             }
-        }
-        Point::D1 => go(with_c(f, x), Point::D2),
-        Point::D2 => {
-            if x == c {
-                After::Done(Node(0))
-            } else {
-                go(f, Point::D3)
+            Loaded::Stray => Turned::Stray,
+        },
+        Point::E14 => match load(t, s, Word::LevelNode(m)) {
+            Loaded::Value(x) => {
+                if x == 0 {
+                    Turned::Next(below_m(with_c(f, x), Point::E15, Point::E13))
+                } else {
+                    Turned::Next(go(with_c(f, x), Point::E16))
+                }
             }
-        }
-        Point::D3 => {
-            if x == 0 {
-                After::Done(Node(0))
-            } else {
-                go(f, Point::D4)
+            Loaded::Stray => Turned::Stray,
+        },
+        Point::E15 => match load(t, s, Word::Tail(q)) {
+            Loaded::Value(x) => Turned::Next(go(with_m(with_c(f, x), top), Point::E16)),
+            Loaded::Stray => Turned::Stray,
+        },
+        Point::E16 => match load(t, s, Word::Next(c)) {
+            Loaded::Value(x) => {
+                if x == p.0 {
+                    Turned::Next(go(with_a(f, c.0), Point::E21))
+                } else if x != 0 {
+                    Turned::Next(After::Go(with_c(f, x)))
+                } else if m.0 == top.0 {
+                    Turned::Next(go(f, Point::E17))
+                } else {
+                    Turned::Next(below_m(f, Point::E15, Point::E13))
+                }
             }
-        }
-        Point::D4 => go(with_r(f, x), Point::D5),
-        Point::D5 => {
-            if c == q {
-                go(f, Point::D6)
-            } else {
-                go(f, Point::D7)
+            Loaded::Stray => Turned::Stray,
+        },
+        Point::E17 => match load(t, s, Word::Next(p)) {
+            Loaded::Value(x) => Turned::Next(go(with_r(f, x), Point::E18)),
+            Loaded::Stray => Turned::Stray,
+        },
+        Point::E18 => store(t, s, Word::Next(p), n.0, go(with_c(f, n.0), Point::E19)),
+        Point::E19 => match load(t, s, Word::Next(c)) {
+            Loaded::Value(x) => Turned::Next(walk_on(f, Point::E20, x)),
+            Loaded::Stray => Turned::Stray,
+        },
+        Point::E20 => store(t, s, Word::Next(c), r.0, go(f, Point::E28)),
+        Point::E21 => match load(t, s, Word::Next(a)) {
+            Loaded::Value(x) => Turned::Next(go(with_r(f, x), Point::E22)),
+            Loaded::Stray => Turned::Stray,
+        },
+        Point::E22 => store(t, s, Word::Next(a), n.0, go(with_c(f, n.0), Point::E23)),
+        Point::E23 => match load(t, s, Word::Next(c)) {
+            Loaded::Value(x) => Turned::Next(walk_on(f, Point::E24, x)),
+            Loaded::Stray => Turned::Stray,
+        },
+        Point::E24 => store(t, s, Word::Next(c), r.0, go(f, Point::E25)),
+        _ => turn_out(t, s, l, top, f),
+    }
+}
+
+// The step table from E25 on: an enqueue leaves, and a dequeue.
+fn turn_out(t: &mut [u16], s: Sizes, l: Level, top: Level, f: Frame) -> Turned
+    requires { ⌜ Fits s (now t) ⌝ }
+    requires { ⌜ pointIn (entering ++ inserting) (f .point) ≡ Unknown ⌝ }
+    ensures { λ r. ⌜ turned s (now (t .entry)) (row (pointOf (f .point)) f l top) ≡ (r, now (t .exit)) ⌝ }
+{
+    let point = f.point;
+    let q = f.queue;
+    let c = f.c;
+    let a = f.a;
+    let r = f.r;
+    match point {
+        Point::E25 => match load(t, s, Word::Tail(q)) {
+            Loaded::Value(x) => Turned::Next(go_if_same(f, x, a.0, Point::E26, Point::E28)),
+            Loaded::Stray => Turned::Stray,
+        },
+        Point::E26 => store(t, s, Word::LevelNode(l), c.0, go(f, Point::E27)),
+        Point::E27 => store(t, s, Word::Tail(q), c.0, go(f, Point::E28)),
+        Point::E28 => store(t, s, Word::LevelQueue(l), 0, go(f, Point::E29)),
+        Point::E29 => store(t, s, Word::LevelNode(l), 0, end_or_go(f, Point::D1)),
+        Point::D1 => match load(t, s, Word::Head(q)) {
+            Loaded::Value(x) => Turned::Next(go(with_c(f, x), Point::D2)),
+            Loaded::Stray => Turned::Stray,
+        },
+        Point::D2 => match load(t, s, Word::Tail(q)) {
+            Loaded::Value(x) => {
+                if x == c.0 {
+                    Turned::Next(After::Done(Node(0)))
+                } else {
+                    Turned::Next(go(f, Point::D3))
+                }
             }
-        }
-        Point::D6 => go(with_n(f, q), Point::E1),
-        Point::D7 => After::Done(Node(c)),
-        _ => After::Go(f),
+            Loaded::Stray => Turned::Stray,
+        },
+        Point::D3 => match load(t, s, Word::Next(c)) {
+            Loaded::Value(x) => {
+                if x == 0 {
+                    Turned::Next(After::Done(Node(0)))
+                } else {
+                    Turned::Next(go(f, Point::D4))
+                }
+            }
+            Loaded::Stray => Turned::Stray,
+        },
+        Point::D4 => match load(t, s, Word::Next(c)) {
+            Loaded::Value(x) => Turned::Next(go(with_r(f, x), Point::D5)),
+            Loaded::Stray => Turned::Stray,
+        },
+        Point::D5 => store(
+            t,
+            s,
+            Word::Head(q),
+            r.0,
+            go_if_same(f, c.0, q.0, Point::D6, Point::D7),
+        ),
+        Point::D6 => store(t, s, Word::Next(c), 0, go(with_n(f, q.0), Point::E1)),
+        Point::D7 => free(t, s, c, After::Done(c)),
+        _ => Turned::Stray,
     }
 }

@@ -2,23 +2,21 @@
 use Prim.Native.Nat.{ℕ, zero, suc, _+_, _-_, _*_, _≤_, _<_}
 use mathlib.Core.Path.{_≡_, refl, ap, sym, subst, _∙_}
 use mathlib.Core.Logic.{_≢_}
-use mathlib.Core.List.{List, [], _∷_, _++_}
+use mathlib.Core.List.{List, [], _∷_}
 use mathlib.Core.Bool.{Bool, true, false, cond, _&&_}
 use native.Mathlib.Omega.{arith}
 use native.Mathlib.Nat.{add-suc, add-zero}
 use native.Mathlib.Numerals.{add-one}
-use lib.ListN.{length, getD, set, length-set, take, drop}
-use lib.Seq.{sets, length-sets, getD-set-same, getD-set-other}
-use lib.Dec.{ltb, leb, eqb}
+use lib.ListN.{length, getD, set, length-set, drop}
+use lib.Seq.{sets, length-sets, getD-set-same, getD-set-other, getD-drop, set-set, set-comm}
+use lib.Dec.{leb, eqb}
 use borrow.Author.Tests.{ltb-true, leb-true, eqb-true, le-leb, lt-ltb, eq-eqb}
 use Rattle.words.specs.declared.Level.{Level}
-use Rattle.words.specs.declared.Queue.{Queue}
 use Rattle.words.specs.declared.Node.{Node}
 use Rattle.words.specs.declared.Sizes.{Sizes}
 use Rattle.words.specs.declared.Frame.{Frame}
 use Rattle.words.specs.declared.Word.{Word}
 use Rattle.words.specs.declared.Word.the-variants.{LevelNode, LevelQueue, Head, Tail, Next, Use}
-use Rattle.words.specs.declared.Measured.{Measured}
 use Rattle.words.specs.declared.Measured.the-variants.{Sized, Unfit}
 use Rattle.words.specs.Layout.{
   level,
@@ -328,10 +326,10 @@ frames-apart : (s : Sizes) (k l : Level) (i j : ℕ) → k .0 ≢ l .0 → i < 1
 unfolding frameAt
 frames-apart s k l i j ne p q e = omega arith
 
--- a frame is the same where its 11 words are
-frame-kept : (t u : List ℕ) (b : ℕ) → ((i : ℕ) → i < 11 → getD u (b + i) 0 ≡ getD t (b + i) 0) → frameFrom u b ≡ frameFrom t b
-frame-kept t u b h =
-    let op : getD u b 0 ≡ getD t b 0 = rw add-zero at (h 0 (omega arith)) in
+-- a frame is read from b on as from the front of a list that has the same 11 words
+frame-words : (u ws : List ℕ) (b : ℕ) → ((i : ℕ) → i < 11 → getD u (b + i) 0 ≡ getD ws i 0) → frameFrom u b ≡ frameFrom ws 0
+frame-words u ws b h =
+    let op : getD u b 0 ≡ getD ws 0 0 = rw add-zero at (h 0 (omega arith)) in
     simp (
       op,
       h 1 (omega arith),
@@ -345,6 +343,11 @@ frame-kept t u b h =
       h 9 (omega arith),
       h 10 (omega arith),
     )
+
+frame-kept : (t u : List ℕ) (b : ℕ) → ((i : ℕ) → i < 11 → getD u (b + i) 0 ≡ getD t (b + i) 0) → frameFrom u b ≡ frameFrom t b
+frame-kept t u b h =
+    frame-words u (drop b t) b (λ i k. h i k ∙ sym (getD-drop b t i 0))
+    ∙ sym (frame-words t (drop b t) b (λ i k. sym (getD-drop b t i 0)))
 
 module _ (s : Sizes) (t : List ℕ) (l : Level) where
   -- a frame after a word was written
@@ -364,27 +367,9 @@ module _ (s : Sizes) (t : List ℕ) (l : Level) where
   -- a frame after it was put
   pub frame-same : (g : Frame) → words s ≤ length t → l .0 < s .levels → frameOf s (putFrame s t l g) l ≡ g
   unfolding frameOf putFrame
-  frame-same g room h = by (λ i k. sets-in (frameWords g) t (frameAt s l) i k (omega (arith, frame-in s l h)))
-    where
-      u : List ℕ
-      u = sets t (frameAt s l) (frameWords g)
-
-      by : ((i : ℕ) → i < 11 → getD u (frameAt s l + i) 0 ≡ getD (frameWords g) i 0) → frameFrom u (frameAt s l) ≡ g
-      by at =
-          let op : getD u (frameAt s l) 0 ≡ g .op = rw add-zero at (at 0 (omega arith)) in
-          simp (
-            op,
-            at 1 (omega arith),
-            at 2 (omega arith),
-            at 3 (omega arith),
-            at 4 (omega arith),
-            at 5 (omega arith),
-            at 6 (omega arith),
-            at 7 (omega arith),
-            at 8 (omega arith),
-            at 9 (omega arith),
-            at 10 (omega arith),
-          )
+  frame-same g room h =
+      frame-words (sets t (frameAt s l) (frameWords g)) (frameWords g) (frameAt s l)
+      (λ i k. sets-in (frameWords g) t (frameAt s l) i k (omega (arith, frame-in s l h)))
 
   -- and another level's frame
   pub frame-other : (g : Frame) (k : Level) → k .0 ≢ l .0 → frameOf s (putFrame s t l g) k ≡ frameOf s t k
@@ -540,3 +525,45 @@ has-is s (Head q) b = within-is 1 (s .queues) (q .0) (b .0) (b .1)
 has-is s (Tail q) b = within-is 1 (s .queues) (q .0) (b .0) (b .1)
 has-is s (Next n) b = within-is 1 (s .nodes) (n .0) (b .0) (b .1)
 has-is s (Use n) b = within-is 1 (s .nodes) (n .0) (b .0) (b .1)
+
+-- ---- a frame put again, and beside a word
+
+-- a store beside a run of words, before it and after it
+sets-beside : (ws t : List ℕ) (b j v : ℕ) → ((i : ℕ) → i < length ws → j ≢ b + i) → sets (set t j v) b ws ≡ set (sets t b ws) j v
+sets-beside [] t b j v h = refl
+sets-beside (w ∷ ws) t b j v h =
+    ap (λ (u : List ℕ). sets u (suc b) ws) (set-comm t j b v w (λ e. h 0 (omega arith) (omega arith)))
+    ∙ sets-beside ws (set t b w) (suc b) j v (λ i k e. h (suc i) (omega arith) (omega arith))
+
+-- of two runs of words at one place the last stays
+sets-twice : (ws vs t : List ℕ) (b : ℕ) → length ws ≡ length vs → sets (sets t b ws) b vs ≡ sets t b vs
+sets-twice [] [] t b e = refl
+sets-twice [] (v ∷ vs) t b e = absurd (omega arith)
+sets-twice (w ∷ ws) [] t b e = absurd (omega arith)
+sets-twice (w ∷ ws) (v ∷ vs) t b e =
+    let over : set (sets (set t b w) (suc b) ws) b v ≡ sets (set t b v) (suc b) ws =
+    sym (sets-beside ws (set t b w) (suc b) b v (λ i k z. omega arith))
+    ∙ ap (λ (u : List ℕ). sets u (suc b) ws) (set-set t b w v) in
+    ap (λ (u : List ℕ). sets u (suc b) vs) over ∙ sets-twice ws vs (set t b v) (suc b) (omega arith)
+
+-- a word's own value put into it
+set-own : (t : List ℕ) (i : ℕ) → set t i (getD t i 0) ≡ t
+set-own [] i = refl
+set-own (x ∷ t) zero = refl
+set-own (x ∷ t) (suc i) = ap (λ (r : List ℕ). x ∷ r) (set-own t i)
+
+module _ (s : Sizes) (t : List ℕ) (l : Level) where
+  pub put-put : (f g : Frame) → putFrame s (putFrame s t l f) l g ≡ putFrame s t l g
+  unfolding putFrame
+  put-put f g = sets-twice (frameWords f) (frameWords g) t (frameAt s l) refl
+
+  pub put-wr : (f : Frame) (w : Word) → has s w ≡ true → (v : ℕ) → putFrame s (wr s t w v) l f ≡ wr s (putFrame s t l f) w v
+  unfolding putFrame wr
+  put-wr f w h v =
+      sets-beside (frameWords f) t (frameAt s l) (addr s w) v
+      (λ i k e. omega (arith, addr-clear s w h .before, frame-past s l))
+
+  -- a frame's own words put into it
+  pub put-own : putFrame s t l (frameOf s t l) ≡ t
+  unfolding putFrame frameOf
+  put-own = sym (frame-laid t (frameAt s l) (frameFrom t (frameAt s l))) ∙ simp set-own

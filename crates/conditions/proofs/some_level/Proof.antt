@@ -1,6 +1,5 @@
 use Prim.Native.Nat.{_-_}
 use mathlib.Core.Path.{_≡_, refl, sym, _∙_}
-use native.Mathlib.Omega.{arith}
 use Rattle.words.specs.Laws.{told}
 use Rattle.conditions.specs.Conditions.{some}
 use Rattle.conditions.specs.Laws.{some-more, some-none}

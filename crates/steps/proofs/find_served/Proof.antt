@@ -2,7 +2,7 @@ use native.Mathlib.Omega.{arith}
 use Rattle.words.specs.Laws.{told}
 use Rattle.steps.specs.Step.{serving}
 use Rattle.steps.specs.Laws.{serving-hit, serving-miss}
-use Prim.Native.Nat.{ℕ, _≤_}
+use Prim.Native.Nat.{_≤_}
 use mathlib.Core.Path.{_≡_, refl, sym, _∙_, ap}
 use borrow.Author.Needs.{needs}
 use Rattle.steps.proofs.find_served.Statement.{statement}

@@ -6,12 +6,13 @@ use Rattle.table.proofs.count_step.Tie as tie
 
 returns : tie.Need-returns
 unfolding counted
-returns c = simp (lt-ltb _ _ (c .if1 .taken))
+returns c = simp (c .apart .ensures, lt-ltb _ _ (c .before .if1 .taken))
 
 returns-2 : tie.Need-returns-2
 unfolding counted
-returns-2 c = simp (le-ltb _ _ (c .if1 .left))
+returns-2 c = simp (c .apart2 .ensures, le-ltb _ _ (c .before .if1 .left))
 
 pub count-step-spec : {M : Type 1} → statement M
-count-step-spec = tie.close
-    (tie.spec (λ c. search needs) returns returns-2)
+count-step-spec =
+    tie.close
+    (tie.spec (λ c. search needs) (λ c κs. search needs) (λ c κs. search needs) returns returns-2)

@@ -1,0 +1,2 @@
+pub mod Members
+pub mod Links

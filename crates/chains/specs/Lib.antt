@@ -1,0 +1,2 @@
+pub mod Member
+pub mod Seg

@@ -1,0 +1,1 @@
+// Chains of nodes, linked by their next words: theory only.

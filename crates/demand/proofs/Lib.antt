@@ -1,0 +1,15 @@
+pub mod Rows
+pub mod Apart
+pub mod Alone
+pub mod World
+pub mod Bridge
+pub mod Keeps
+pub mod Steps
+pub mod Runs
+pub mod Begins
+pub mod Kept
+pub mod Quiet
+pub mod Fresh
+pub mod Moments
+pub mod Dequeue
+pub mod Theorems

@@ -1,0 +1,16 @@
+pub mod Keep
+pub mod Below
+pub mod Turn
+pub mod Rules
+pub mod Enter
+pub mod Append
+pub mod Search
+pub mod Insert
+pub mod Leave
+pub mod Own
+pub mod Words
+pub mod Rest
+pub mod Levels
+pub mod Step
+pub mod Begin
+pub mod Others

@@ -1,0 +1,3 @@
+pub mod Ghost
+pub mod Facts
+pub mod Sound

@@ -1,0 +1,4 @@
+pub mod Mem
+pub mod Step
+pub mod View
+pub mod Queues

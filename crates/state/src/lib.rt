@@ -1,0 +1,1 @@
+// The table's words as functions, and one step of it so seen: theory only.
