@@ -1,4 +1,5 @@
 // The bench program: a schedule on standard input, its log on standard output.
+use libc::STDERR_FILENO;
 use libc::STDIN_FILENO;
 use libc::STDOUT_FILENO;
 use loglines::Logged;
@@ -12,6 +13,8 @@ fn main() {
         Logged::Bytes(m) => {
             io::write_all(STDOUT_FILENO, &room[..m]);
         }
-        Logged::Refused(_) => {}
+        Logged::Refused(_) => {
+            io::write_all(STDERR_FILENO, b"bench: the log is longer than its room\n");
+        }
     }
 }
