@@ -1,6 +1,6 @@
 -- The log of a schedule's text, as document 01 says it of the bench program.
 use Prim.Native.Nat.{ℕ, zero, suc}
-use mathlib.Core.List.{List, [], _∷_, _++_}
+use mathlib.Core.List.{List, [], _++_}
 use mathlib.Core.Bool.{cond}
 use lib.ListN.{length, getD, take, replicate}
 use lib.Dec.{ltb}

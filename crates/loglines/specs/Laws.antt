@@ -4,11 +4,11 @@ use mathlib.Core.Path.{_≡_, refl, sym, ap, _∙_}
 use mathlib.Core.List.{List, [], _∷_, _++_, append-assoc, append-nil}
 use mathlib.Core.Bool.{Bool, true, false, cond}
 use native.Mathlib.Omega.{arith}
-use native.Mathlib.Nat.{add-zero, zero-add, add-suc, suc-add, add-assoc}
+use native.Mathlib.Nat.{zero-add}
 use native.Mathlib.Numerals.{add-one}
-use lib.ListN.{length, length-append, take, drop, getD, set, drop-of-length-le}
-use lib.Seq.{sets, sets-eq, drop-cons, length-take-le, getD-take, set-append-seam, take-append-seam}
-use lib.Dec.{ltb, leb}
+use lib.ListN.{length, length-append, take, drop, getD, drop-of-length-le}
+use lib.Seq.{sets-eq, drop-cons, length-take-le, getD-take, set-append-seam, take-append-seam}
+use lib.Dec.{leb}
 use borrow.Author.Tests.{lt-ltb, le-ltb, le-leb, lt-leb, leb-true}
 use Rattle.heads.specs.Put.{Put}
 use Rattle.decimals.specs.Decimals.{digitsOf}

@@ -1,13 +1,13 @@
 -- What the proofs of the performing cite.
 use Prim.Native.Nat.{ℕ, zero, suc, _+_, _-_, _≤_, _<_}
-use mathlib.Core.Path.{_≡_, refl, sym, ap, _∙_}
-use mathlib.Core.List.{List, [], _∷_, _++_}
+use mathlib.Core.Path.{_≡_, refl, ap, _∙_}
+use mathlib.Core.List.{List, [], _∷_}
 use native.Mathlib.Omega.{arith}
 use native.Mathlib.Numerals.{add-one, sub-one}
 use Rattle.answers.specs.declared.End.{End}
 use Rattle.answers.specs.Said.{Said, refused, says, Run, after, an-end}
 use Rattle.text.specs.declared.Event.{Event}
-use Rattle.text.specs.Answer.{Answer, gives, refuses, onto}
+use Rattle.text.specs.Answer.{gives, refuses}
 use Rattle.text.specs.Reading.{eventReading}
 use Rattle.text.specs.Laws.{onto-is, given-is}
 use Rattle.steps.specs.Run.{runOf}
@@ -17,7 +17,7 @@ use Rattle.loglines.specs.Pen.{ink}
 use Rattle.loglines.specs.Laws.{ink-append, ink-then}
 use Rattle.play.specs.Play.{Played, before, stepsOf, eventOf, follow, eventsOf}
 use Rattle.play.specs.Parts.{into, readThen, atPlace}
-use Rattle.play.specs.Steps.{ranPlayed, steps-run, ran-counts}
+use Rattle.play.specs.Steps.{ranPlayed, steps-run}
 
 into-before : {A : Type 0} (x y : Said ℕ × List ℕ) (line : List ℕ) (p : List ℕ × A) → ink x line ≡ y → into x (before line p) ≡ into y p
 into-before x y line p e = ap (λ (w : Said ℕ × List ℕ). (w, p .1)) (ink-append x line (p .0) ∙ rw e)

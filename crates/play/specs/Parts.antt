@@ -1,6 +1,6 @@
 -- What the parts of the performing promise each other.
 use Prim.Native.Nat.{ℕ, zero, suc}
-use mathlib.Core.List.{List, [], _∷_}
+use mathlib.Core.List.{List, []}
 use Rattle.answers.specs.Said.{Said}
 use Rattle.text.specs.declared.Event.{Event}
 use Rattle.text.specs.Answer.{Answer, gives, refuses}

@@ -1,8 +1,8 @@
 -- A run is so many single steps: what is played by single steps can be played by runs.
 use Prim.Native.Nat.{ℕ, zero, suc, _+_, _-_, _≤_, _<_}
-use mathlib.Core.Path.{_≡_, refl, sym, ap, _∙_}
+use mathlib.Core.Path.{_≡_, refl, ap, _∙_}
 use mathlib.Core.Logic.{_⊎_, inl, inr}
-use mathlib.Core.List.{List, [], _∷_, _++_}
+use mathlib.Core.List.{List, []}
 use mathlib.Core.Bool.{Bool, true, false, cond}
 use native.Mathlib.Omega.{arith}
 use native.Mathlib.Nat.{zero-add}
@@ -16,7 +16,7 @@ use Rattle.words.specs.declared.Word.the-variants.{Next, Use}
 use Rattle.words.specs.Layout.{measured, has, wr, noFrame}
 use Rattle.words.specs.Laws.{measured-wr, measured-put, has-use}
 use Rattle.answers.specs.declared.End.{End}
-use Rattle.answers.specs.Said.{Said, refused, says, Step, going-on, ended, Run, Why, after, an-end, spent, nothing-runs, refusal-10}
+use Rattle.answers.specs.Said.{Said, refused, says, Step, going-on, ended, Run, after, an-end, spent, nothing-runs, refusal-10}
 use Rattle.table.specs.Table.{Row, loads, stores, frees, nothing}
 use Rattle.table.specs.declared.After.{After}
 use Rattle.table.specs.declared.After.the-variants.{Go, Done}
