@@ -1,3 +1,4 @@
 pub mod Log
 pub mod Parts
 pub mod Laws
+pub mod Once
