@@ -10,8 +10,8 @@
     bench_answer prefix##_fresh(uint16_t *, size_t, uint16_t, uint16_t, uint16_t);                           \
     bench_answer prefix##_begin_enqueue(uint16_t *, size_t, uint16_t, uint16_t, uint16_t);                   \
     bench_answer prefix##_begin_dequeue(uint16_t *, size_t, uint16_t, uint16_t);                             \
-    bench_answer prefix##_step(uint16_t *, size_t, uint16_t *);                                              \
-    bench_answer prefix##_run(uint16_t *, size_t, uint16_t, uint16_t *);                                     \
+    bench_answer prefix##_step(uint16_t *, size_t, uint16_t[BENCH_END_WORDS]);                               \
+    bench_answer prefix##_run(uint16_t *, size_t, uint16_t, uint16_t[BENCH_END_WORDS]);                      \
     bench_answer prefix##_quiet(const uint16_t *, size_t, uint16_t);                                         \
     bench_answer prefix##_waiting(const uint16_t *, size_t, uint16_t);                                       \
     bench_answer prefix##_listing(const uint16_t *, size_t, uint16_t, uint16_t *, size_t)
