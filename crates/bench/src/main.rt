@@ -1,11 +1,11 @@
 // The bench program: a schedule on standard input, its log on standard output.
-use loglines::Logged;
+use log::Logged;
 use streams::Input;
 
 fn main() {
     let mut text = [0u8; 65537];
-    let mut table = [0u16; 2276];
-    let mut room = [0u8; 262144];
+    let mut table = [0u16; log::TABLE];
+    let mut room = [0u8; log::ROOM];
     let Input::Bytes(n) = streams::read_input(&mut text) else {
         return;
     };
