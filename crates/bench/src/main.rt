@@ -2,12 +2,12 @@
 use libc::STDERR_FILENO;
 use libc::STDIN_FILENO;
 use libc::STDOUT_FILENO;
-use loglines::Logged;
+use log::Logged;
 
 fn main() {
     let mut text = [0u8; 65537];
-    let mut table = [0u16; 2276];
-    let mut room = [0u8; 262144];
+    let mut table = [0u16; log::TABLE];
+    let mut room = [0u8; log::ROOM];
     let n = io::read_full(STDIN_FILENO, &mut text);
     match log::write_log(&text[..n], &mut table, &mut room) {
         Logged::Bytes(m) => {
