@@ -13,6 +13,6 @@ fn main() {
         Logged::Bytes(m) => {
             streams::write_output(&room[..m]);
         }
-        Logged::Refused(_) => streams::say(b"bench: the log is longer than its room\n"),
+        Logged::Refused(_) => streams::say(b"bench: the table or the room is too small\n"),
     }
 }
