@@ -1,19 +1,10 @@
 /* Times the calls of plain C and of the proved library side by side, on the same work, and sees that
  * all gave the same answers and tables. Plain C stands at the flags that are fastest for each work.
- * usage: calls [growth] */
+ * usage: calls works RATIOS, which adds each work's ratio to the file RATIOS; or calls growth */
 #define _DEFAULT_SOURCE
 #include "sides.h"
 
 /* plain.c as `run` compiles it once more for each choice of flags, its calls renamed */
-#define CALLS_OF(prefix)                                                                                     \
-    answer prefix##_fresh(uint16_t *, size_t, uint16_t, uint16_t, uint16_t);                                 \
-    answer prefix##_begin_enqueue(uint16_t *, size_t, uint16_t, uint16_t, uint16_t);                         \
-    answer prefix##_begin_dequeue(uint16_t *, size_t, uint16_t, uint16_t);                                   \
-    answer prefix##_step(uint16_t *, size_t, uint16_t *);                                                    \
-    answer prefix##_run(uint16_t *, size_t, uint16_t, uint16_t *);                                           \
-    answer prefix##_quiet(const uint16_t *, size_t, uint16_t);                                               \
-    answer prefix##_waiting(const uint16_t *, size_t, uint16_t);                                             \
-    answer prefix##_listing(const uint16_t *, size_t, uint16_t, uint16_t *, size_t)
 CALLS_OF(o2);
 CALLS_OF(o3);
 CALLS_OF(native);
@@ -30,7 +21,7 @@ static const struct side sides[SIDES] = {SIDE("-O2", o2), SIDE("-O3", o3), SIDE(
 enum { SAMPLES = 25, ENOUGH = 65535, SAMPLE_NS = 4000000 };
 
 /* The table that a repetition starts from, and the one it works on. */
-static uint16_t start[MOST_WORDS], t[MOST_WORDS];
+static uint16_t start[BENCH_MOST_WORDS], t[BENCH_MOST_WORDS];
 static size_t len;
 
 /* What a side did: steps, and a sum over every answer. */
@@ -40,11 +31,11 @@ struct done {
 
 static void add(struct done *d, uint64_t x) { d->sum = d->sum * 31 + x; }
 
-static void add_end(struct done *d, const uint16_t end[END_WORDS])
+static void add_end(struct done *d, const uint16_t end[BENCH_END_WORDS])
 {
-    for (int i = 0; i < END_WORDS; i++)
+    for (int i = 0; i < BENCH_END_WORDS; i++)
         add(d, end[i]);
-    d->steps += end[END_STEPS];
+    d->steps += end[BENCH_END_STEPS];
 }
 
 static void fail(const char *what)
@@ -65,11 +56,11 @@ static void sized(unsigned levels, unsigned queues, unsigned nodes)
 /* Begins an enqueue and takes some of its steps; all of them where `steps` is ENOUGH. */
 static void put(unsigned level, unsigned node, unsigned steps)
 {
-    uint16_t end[END_WORDS];
+    uint16_t end[BENCH_END_WORDS];
     if (plain_begin_enqueue(start, len, (uint16_t)level, 1, (uint16_t)node) != 0)
         fail("an enqueue was refused");
-    answer a = plain_run(start, len, (uint16_t)steps, end);
-    if (answer_code(a) != (steps == ENOUGH ? ANSWER_ENDED : 0))
+    bench_answer a = plain_run(start, len, (uint16_t)steps, end);
+    if (bench_code(a) != (steps == ENOUGH ? BENCH_ENDED : 0))
         fail("an enqueue went another way");
 }
 
@@ -117,9 +108,9 @@ static void restore(void) { memcpy(t, start, len * sizeof *t); }
 
 static void finish(const struct side *s, struct done *d)
 {
-    uint16_t end[END_WORDS];
-    answer a = s->run(t, len, ENOUGH, end);
-    if (answer_code(a) != ANSWER_ENDED)
+    uint16_t end[BENCH_END_WORDS];
+    bench_answer a = s->run(t, len, ENOUGH, end);
+    if (bench_code(a) != BENCH_ENDED)
         fail("a run did not end");
     add(d, a);
     add_end(d, end);
@@ -149,11 +140,11 @@ static void pair(const struct side *s, struct done *d)
 /* Steps until nothing runs. */
 static void step_all(const struct side *s, struct done *d)
 {
-    uint16_t end[END_WORDS];
-    answer a;
-    while (answer_code(a = s->step(t, len, end)) != 9) {
+    uint16_t end[BENCH_END_WORDS];
+    bench_answer a;
+    while (bench_code(a = s->step(t, len, end)) != 9) {
         if (a != 0) {
-            if (answer_code(a) != ANSWER_ENDED)
+            if (bench_code(a) != BENCH_ENDED)
                 fail("a step was refused");
             add_end(d, end);
         }
@@ -171,7 +162,7 @@ static void pair_by_step(const struct side *s, struct done *d)
 /* Each level begins after five steps of the one below it. */
 static void nest(const struct side *s, struct done *d)
 {
-    uint16_t end[END_WORDS];
+    uint16_t end[BENCH_END_WORDS];
     restore();
     for (unsigned l = 0; l < start[0]; l++) {
         add(d, s->begin_enqueue(t, len, (uint16_t)l, 1, (uint16_t)(l + 2)));
@@ -222,7 +213,7 @@ static double sample(const struct work *w, const struct side *s, unsigned reps, 
 /* The best ns per step of each side, all taking turns. */
 static void measure(const struct work *w, double best[SIDES])
 {
-    static uint16_t left[MOST_WORDS];
+    static uint16_t left[BENCH_MOST_WORDS];
     struct done first, d;
     w->prepare(w->size);
     unsigned reps = 1;
@@ -251,7 +242,15 @@ static int fastest(const double best[SIDES])
     return c;
 }
 
-static void compare(void)
+/* Adds a ratio to the file of ratios, which outlives this program. */
+static void keep_ratio(const char *path, double ratio)
+{
+    FILE *file = fopen(path, "a");
+    if (file == NULL || fprintf(file, "%.6f\n", ratio) < 0 || fclose(file) != 0)
+        fail("the ratio cannot be kept");
+}
+
+static void compare(const char *ratios)
 {
     static const struct work works[] = {
         {"(a) a walk at E10, 1,022 nodes", prepare_e10, walk, 1024},
@@ -268,6 +267,7 @@ static void compare(void)
         measure(&works[i], best);
         int c = fastest(best);
         printf("%-50s %8.2f %8.2f %7.2f  %s\n", works[i].name, best[c], best[OURS], best[OURS] / best[c], sides[c].name);
+        keep_ratio(ratios, best[OURS] / best[c]);
     }
     printf("the answers and tables of all sides agreed throughout\n");
 }
@@ -303,9 +303,11 @@ static void growth(void)
 
 int main(int argc, char **argv)
 {
-    if (argc > 1 && strcmp(argv[1], "growth") == 0)
+    if (argc == 2 && strcmp(argv[1], "growth") == 0)
         growth();
+    else if (argc == 3 && strcmp(argv[1], "works") == 0)
+        compare(argv[2]);
     else
-        compare();
+        fail("usage: calls works RATIOS, or calls growth");
     return 0;
 }

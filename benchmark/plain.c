@@ -25,8 +25,8 @@ struct table {
     uint16_t *frame; /* frame[11l]: the 11 words of level l */
 };
 
-static answer refused(unsigned number) { return (answer)number << 16; }
-static answer answered(unsigned value) { return (answer)value; }
+static bench_answer refused(unsigned number) { return (bench_answer)number << 16; }
+static bench_answer answered(unsigned value) { return (bench_answer)value; }
 
 static bool within(unsigned from, unsigned to, unsigned x) { return x - from <= to - from; }
 
@@ -81,7 +81,7 @@ static int serving(const struct table *s)
     return l;
 }
 
-answer plain_fresh(uint16_t *t, size_t len, uint16_t levels, uint16_t queues, uint16_t nodes)
+bench_answer plain_fresh(uint16_t *t, size_t len, uint16_t levels, uint16_t queues, uint16_t nodes)
 {
     if (!in_limits(levels, queues, nodes))
         return refused(2);
@@ -109,7 +109,7 @@ static void begin(const struct table *s, unsigned level, unsigned op, unsigned p
     f[NODE] = (uint16_t)node;
 }
 
-answer plain_begin_enqueue(uint16_t *t, size_t len, uint16_t level, uint16_t queue, uint16_t node)
+bench_answer plain_begin_enqueue(uint16_t *t, size_t len, uint16_t level, uint16_t queue, uint16_t node)
 {
     struct table s;
     if (!measure(&s, t, len))
@@ -129,7 +129,7 @@ answer plain_begin_enqueue(uint16_t *t, size_t len, uint16_t level, uint16_t que
     return answered(0);
 }
 
-answer plain_begin_dequeue(uint16_t *t, size_t len, uint16_t level, uint16_t queue)
+bench_answer plain_begin_dequeue(uint16_t *t, size_t len, uint16_t level, uint16_t queue)
 {
     struct table s;
     if (!measure(&s, t, len))
@@ -178,16 +178,16 @@ static inline void count_step(uint16_t *restrict f)
 static inline unsigned ends(uint16_t *restrict f, unsigned l, unsigned node, uint16_t *restrict end)
 {
     count_step(f);
-    end[END_OP] = f[OP];
-    end[END_LEVEL] = (uint16_t)l;
-    end[END_QUEUE] = f[QUEUE];
-    end[END_NODE] = (uint16_t)node;
-    end[END_STEPS] = f[STEPS];
+    end[BENCH_END_OP] = f[OP];
+    end[BENCH_END_LEVEL] = (uint16_t)l;
+    end[BENCH_END_QUEUE] = f[QUEUE];
+    end[BENCH_END_NODE] = (uint16_t)node;
+    end[BENCH_END_STEPS] = f[STEPS];
     memset(f, 0, FRAME_WORDS * sizeof *f);
-    return ANSWER_ENDED;
+    return BENCH_ENDED;
 }
 
-/* One step of the frame f of level l: 0 for going on, ANSWER_ENDED, or 10. */
+/* One step of the frame f of level l: 0 for going on, BENCH_ENDED, or 10. */
 static inline unsigned step_frame(const struct table *s, unsigned l, uint16_t *restrict f, uint16_t *restrict end)
 {
     uint16_t *const restrict level = s->level;
@@ -319,7 +319,7 @@ static inline unsigned step_frame(const struct table *s, unsigned l, uint16_t *r
     return 0;
 }
 
-answer plain_step(uint16_t *t, size_t len, uint16_t end[END_WORDS])
+bench_answer plain_step(uint16_t *t, size_t len, uint16_t end[BENCH_END_WORDS])
 {
     struct table s;
     if (!measure(&s, t, len))
@@ -327,12 +327,12 @@ answer plain_step(uint16_t *t, size_t len, uint16_t end[END_WORDS])
     int l = serving(&s);
     if (l < 0)
         return refused(9);
-    return (answer)step_frame(&s, (unsigned)l, s.frame + FRAME_WORDS * l, end) << 16;
+    return (bench_answer)step_frame(&s, (unsigned)l, s.frame + FRAME_WORDS * l, end) << 16;
 }
 
 /* A step alters no op word but that of the level it ends, and a run stops there, so one level is
  * served throughout. */
-answer plain_run(uint16_t *t, size_t len, uint16_t budget, uint16_t end[END_WORDS])
+bench_answer plain_run(uint16_t *t, size_t len, uint16_t budget, uint16_t end[BENCH_END_WORDS])
 {
     struct table s;
     if (!measure(&s, t, len))
@@ -346,7 +346,7 @@ answer plain_run(uint16_t *t, size_t len, uint16_t budget, uint16_t end[END_WORD
     for (unsigned taken = 0; taken < budget; taken++) {
         unsigned code = step_frame(&s, (unsigned)l, f, end);
         if (code != 0)
-            return (answer)code << 16 | (taken + (code == ANSWER_ENDED));
+            return (bench_answer)code << 16 | (taken + (code == BENCH_ENDED));
     }
     return answered(budget);
 }
@@ -361,7 +361,7 @@ static bool is_quiet(const struct table *s, unsigned queue)
     return true;
 }
 
-answer plain_quiet(const uint16_t *t, size_t len, uint16_t queue)
+bench_answer plain_quiet(const uint16_t *t, size_t len, uint16_t queue)
 {
     struct table s;
     if (!measure(&s, t, len))
@@ -371,7 +371,7 @@ answer plain_quiet(const uint16_t *t, size_t len, uint16_t queue)
     return answered(is_quiet(&s, queue));
 }
 
-answer plain_waiting(const uint16_t *t, size_t len, uint16_t queue)
+bench_answer plain_waiting(const uint16_t *t, size_t len, uint16_t queue)
 {
     struct table s;
     if (!measure(&s, t, len))
@@ -384,7 +384,7 @@ answer plain_waiting(const uint16_t *t, size_t len, uint16_t queue)
     return answered(count);
 }
 
-answer plain_listing(const uint16_t *t, size_t len, uint16_t queue, uint16_t *room, size_t room_len)
+bench_answer plain_listing(const uint16_t *t, size_t len, uint16_t queue, uint16_t *room, size_t room_len)
 {
     struct table s;
     if (!measure(&s, t, len))

@@ -4,7 +4,7 @@
 #include <stdbool.h>
 #include <unistd.h>
 
-enum { MOST_BYTES = 65536, MOST_WORDS = 4 + 13 * 16 + 2 * 8 + 2 * 1024, MOST_NODES = 1024 };
+enum { MOST_BYTES = 65536, MOST_NODES = 1024 };
 
 struct event {
     uint8_t kind; /* 'E', 'D' or 'S' */
@@ -13,7 +13,7 @@ struct event {
 
 static uint8_t text[MOST_BYTES + 1];
 static struct event events[MOST_BYTES / 4]; /* the shortest line of an event is "S 1\n" */
-static uint16_t table[MOST_WORDS];
+static uint16_t table[BENCH_MOST_WORDS];
 static uint16_t listed[MOST_NODES];
 static uint8_t log_bytes[1 << 16];
 static size_t log_len;
@@ -133,22 +133,22 @@ static int read_schedule(size_t len, uint16_t sizes[3], uint16_t *count, size_t 
     return at == stop ? 0 : -1;
 }
 
-static void put_ended(const uint16_t end[END_WORDS])
+static void put_ended(const uint16_t end[BENCH_END_WORDS])
 {
-    put_line(end[END_OP] == 1 ? 'E' : 'D', end + END_LEVEL, END_WORDS - END_LEVEL);
+    put_line(end[BENCH_END_OP] == 1 ? 'E' : 'D', end + BENCH_END_LEVEL, BENCH_END_WORDS - BENCH_END_LEVEL);
 }
 
 /* Steps until the count is spent, past ended operations: 0, or the refusal. */
 static uint16_t take_steps(uint16_t count)
 {
-    uint16_t end[END_WORDS];
+    uint16_t end[BENCH_END_WORDS];
     while (count != 0) {
-        answer a = plain_run(table, MOST_WORDS, count, end);
-        if (answer_code(a) == ANSWER_ENDED)
+        bench_answer a = plain_run(table, BENCH_MOST_WORDS, count, end);
+        if (bench_code(a) == BENCH_ENDED)
             put_ended(end);
-        else if (answer_code(a) != 0)
-            return answer_code(a);
-        count = (uint16_t)(count - answer_value(a));
+        else if (bench_code(a) != 0)
+            return bench_code(a);
+        count = (uint16_t)(count - bench_value(a));
     }
     return 0;
 }
@@ -156,23 +156,23 @@ static uint16_t take_steps(uint16_t count)
 static uint16_t perform(const struct event *e)
 {
     switch (e->kind) {
-    case 'E': return answer_code(plain_begin_enqueue(table, MOST_WORDS, e->level, e->queue, e->node));
-    case 'D': return answer_code(plain_begin_dequeue(table, MOST_WORDS, e->level, e->queue));
+    case 'E': return bench_code(plain_begin_enqueue(table, BENCH_MOST_WORDS, e->level, e->queue, e->node));
+    case 'D': return bench_code(plain_begin_dequeue(table, BENCH_MOST_WORDS, e->level, e->queue));
     default: return take_steps(e->count);
     }
 }
 
 static void put_queue(uint16_t q)
 {
-    answer a = plain_listing(table, MOST_WORDS, q, listed, MOST_NODES);
-    if (answer_code(a) != 0) {
+    bench_answer a = plain_listing(table, BENCH_MOST_WORDS, q, listed, MOST_NODES);
+    if (bench_code(a) != 0) {
         put_line('U', &q, 1);
         return;
     }
     put_byte('Q');
     put_byte(' ');
     put_number(q);
-    for (size_t i = 0; i < answer_value(a); i++) {
+    for (size_t i = 0; i < bench_value(a); i++) {
         put_byte(' ');
         put_number(listed[i]);
     }
@@ -185,7 +185,7 @@ int main(void)
     size_t line;
     if (read_schedule(read_all(), sizes, &count, &line) != 0) {
         put_line('T', (uint16_t[]){(uint16_t)line}, 1);
-    } else if (plain_fresh(table, MOST_WORDS, sizes[0], sizes[1], sizes[2]) != 0) {
+    } else if (plain_fresh(table, BENCH_MOST_WORDS, sizes[0], sizes[1], sizes[2]) != 0) {
         put_line('R', (uint16_t[]){0, 2}, 2);
     } else {
         for (uint16_t i = 0; i < count; i++) {

@@ -6,9 +6,9 @@
 #include <stdlib.h>
 #include <string.h>
 
-enum { MOST_WORDS = 4 + 13 * 16 + 2 * 8 + 2 * 1024, LONGEST_LINE = 32, HEADER = 64 };
+enum { LONGEST_LINE = 32, HEADER = 64 };
 
-static uint16_t t[MOST_WORDS], trial[MOST_WORDS];
+static uint16_t t[BENCH_MOST_WORDS], trial[BENCH_MOST_WORDS];
 static uint64_t state;
 
 static unsigned from_to(unsigned a, unsigned b)
@@ -20,12 +20,12 @@ static unsigned from_to(unsigned a, unsigned b)
 /* Steps past ended operations: how many until the count is spent or nothing runs. */
 static unsigned take_steps(uint16_t *table, unsigned count)
 {
-    uint16_t end[END_WORDS];
+    uint16_t end[BENCH_END_WORDS];
     unsigned taken = 0;
     while (taken < count) {
-        answer a = plain_run(table, MOST_WORDS, (uint16_t)(count - taken), end);
-        taken += answer_value(a);
-        if (answer_code(a) != ANSWER_ENDED)
+        bench_answer a = plain_run(table, BENCH_MOST_WORDS, (uint16_t)(count - taken), end);
+        taken += bench_value(a);
+        if (bench_code(a) != BENCH_ENDED)
             break;
     }
     return taken;
@@ -37,11 +37,11 @@ static int event(char *line, unsigned levels, unsigned queues, unsigned nodes, u
     unsigned l = from_to(0, levels - 1), q = from_to(1, queues), n = from_to(queues, nodes), c = from_to(1, steps);
     switch (from_to(0, 3)) {
     case 0:
-        if (plain_begin_enqueue(t, MOST_WORDS, (uint16_t)l, (uint16_t)q, (uint16_t)n) != 0)
+        if (plain_begin_enqueue(t, BENCH_MOST_WORDS, (uint16_t)l, (uint16_t)q, (uint16_t)n) != 0)
             return 0;
         return sprintf(line, "E %u %u %u\n", l, q, n);
     case 1:
-        if (plain_begin_dequeue(t, MOST_WORDS, (uint16_t)l, (uint16_t)q) != 0)
+        if (plain_begin_dequeue(t, BENCH_MOST_WORDS, (uint16_t)l, (uint16_t)q) != 0)
             return 0;
         return sprintf(line, "D %u %u\n", l, q);
     default:
@@ -62,7 +62,7 @@ int main(int argc, char **argv)
     for (int i = 0; i < 6; i++)
         x[i] = (unsigned)strtoul(argv[i + 1], 0, 10);
     state = x[5];
-    if (plain_fresh(t, MOST_WORDS, (uint16_t)x[0], (uint16_t)x[1], (uint16_t)x[2]) != 0)
+    if (plain_fresh(t, BENCH_MOST_WORDS, (uint16_t)x[0], (uint16_t)x[1], (uint16_t)x[2]) != 0)
         return 2;
     char *lines = malloc(x[4] + LONGEST_LINE), line[LONGEST_LINE], header[HEADER];
     unsigned len = 0, count = 0;

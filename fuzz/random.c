@@ -12,7 +12,7 @@
 
 static const struct side plain_side = SIDE("C", plain), our_side = OUR_SIDE;
 
-enum { SLACK = 16, ROOM = 1024 + SLACK, BUFFER = MOST_WORDS + SLACK, FRAME_WORDS = 11 };
+enum { SLACK = 16, ROOM = 1024 + SLACK, BUFFER = BENCH_MOST_WORDS + SLACK, FRAME_WORDS = 11 };
 
 enum kind { FRESH, ENQUEUE, DEQUEUE, STEP, RUN, QUIET, WAITING, LISTING, KINDS };
 static const char *const kind_names[KINDS] = {"fresh", "enqueue", "dequeue", "step", "run", "quiet", "waiting", "listing"};
@@ -26,7 +26,7 @@ struct call {
 
 /* All that a call is lent. */
 struct lent {
-    uint16_t table[BUFFER], room[ROOM], end[END_WORDS];
+    uint16_t table[BUFFER], room[ROOM], end[BENCH_END_WORDS];
 };
 
 /* The table that is being tried: its words, how many are lent, and the sizes that it was made with. */
@@ -192,7 +192,7 @@ static uint16_t *guarded(void)
 
 static uint16_t *table_stop, *room_stop;
 
-static answer make_on(const struct side *s, const struct call *c, uint16_t *t, uint16_t *room, uint16_t *end)
+static bench_answer make_on(const struct side *s, const struct call *c, uint16_t *t, uint16_t *room, uint16_t *end)
 {
     switch (c->kind) {
     case FRESH: return s->fresh(t, len, c->x[0], c->x[1], c->x[2]);
@@ -207,25 +207,25 @@ static answer make_on(const struct side *s, const struct call *c, uint16_t *t, u
 }
 
 /* The call, on copies that stand right before guarded memory. */
-static answer make(const struct side *s, const struct call *c, struct lent *m)
+static bench_answer make(const struct side *s, const struct call *c, struct lent *m)
 {
     uint16_t *t = table_stop - len, *room = room_stop - c->room;
     memcpy(t, m->table, len * sizeof *t);
     memcpy(room, m->room, c->room * sizeof *room);
-    answer a = make_on(s, c, t, room, m->end);
+    bench_answer a = make_on(s, c, t, room, m->end);
     memcpy(m->table, t, len * sizeof *t);
     memcpy(m->room, room, c->room * sizeof *room);
     return a;
 }
 
 /* ---- what was tried: answers by call and code, steps by point and code */
-static uint64_t seen[KINDS][ANSWER_ENDED + 1], stepped[38][3];
+static uint64_t seen[KINDS][BENCH_ENDED + 1], stepped[38][3];
 
-static void note(const struct call *c, const struct lent *before, answer a)
+static void note(const struct call *c, const struct lent *before, bench_answer a)
 {
-    unsigned code = answer_code(a);
+    unsigned code = bench_code(a);
     seen[c->kind][code]++;
-    if (c->kind != STEP || (code != 0 && code != 10 && code != ANSWER_ENDED))
+    if (c->kind != STEP || (code != 0 && code != 10 && code != BENCH_ENDED))
         return;
     unsigned levels = before->table[0], l = levels;
     size_t frames = 4 + 2 * levels;
@@ -245,15 +245,15 @@ static void show(const char *name, const uint16_t *a, const uint16_t *b, size_t 
             printf("  %s word %zu: %s %u, %s %u\n", name, i, plain_side.name, a[i], our_side.name, b[i]);
 }
 
-static int differ(const struct call *c, const struct lent *before, const struct lent *a, const struct lent *b, answer x, answer y)
+static int differ(const struct call *c, const struct lent *before, const struct lent *a, const struct lent *b, bench_answer x, bench_answer y)
 {
     printf("DIFFERENT: %s %u %u %u, room %zu, on %zu words (L %u, Q %u, N %u before any damage)\n", kind_names[c->kind],
            c->x[0], c->x[1], c->x[2], c->room, len, L, Q, N);
-    printf("  answers (code, value): %s %u %u, %s %u %u\n", plain_side.name, answer_code(x), answer_value(x), our_side.name,
-           answer_code(y), answer_value(y));
+    printf("  answers (code, value): %s %u %u, %s %u %u\n", plain_side.name, bench_code(x), bench_value(x), our_side.name,
+           bench_code(y), bench_value(y));
     show("table", a->table, b->table, BUFFER);
     show("room", a->room, b->room, ROOM);
-    show("end", a->end, b->end, END_WORDS);
+    show("end", a->end, b->end, BENCH_END_WORDS);
     printf("  the words before:");
     for (size_t i = 0; i < len; i++)
         printf(" %u", before->table[i]);
@@ -262,20 +262,20 @@ static int differ(const struct call *c, const struct lent *before, const struct 
 }
 
 /* A refusal leaves everything as it was, and a run is its steps: plain C held to itself. */
-static int untrue(const struct call *c, const struct lent *before, const struct lent *after, answer a)
+static int untrue(const struct call *c, const struct lent *before, const struct lent *after, bench_answer a)
 {
     static struct lent m;
-    uint16_t code = answer_code(a), taken = 0;
+    uint16_t code = bench_code(a), taken = 0;
     if (c->kind != RUN)
-        return code != 0 && code != ANSWER_ENDED && memcmp(before, after, sizeof m) != 0;
+        return code != 0 && code != BENCH_ENDED && memcmp(before, after, sizeof m) != 0;
     m = *before;
-    answer step = 0;
+    bench_answer step = 0;
     while (step == 0 && taken < c->x[0] && (step = plain_step(m.table, len, m.end)) == 0)
         taken++;
-    if (answer_code(step) == ANSWER_ENDED)
+    if (bench_code(step) == BENCH_ENDED)
         taken++;
     bool spent_short = code == 1 && c->x[0] == 0; /* refusal 1 comes before the budget is looked at */
-    return memcmp(&m, after, sizeof m) != 0 || taken != answer_value(a) || (!spent_short && answer_code(step) != code);
+    return memcmp(&m, after, sizeof m) != 0 || taken != bench_value(a) || (!spent_short && bench_code(step) != code);
 }
 
 static int try_calls(void)
@@ -284,7 +284,7 @@ static int try_calls(void)
     for (unsigned i = from_to(1, 12); i > 0; i--) {
         struct call c = random_call();
         before = a = b = now;
-        answer x = make(&plain_side, &c, &a), y = make(&our_side, &c, &b);
+        bench_answer x = make(&plain_side, &c, &a), y = make(&our_side, &c, &b);
         if (x != y || memcmp(&a, &b, sizeof a) != 0)
             return differ(&c, &before, &a, &b, x, y);
         if (untrue(&c, &before, &a, x)) {
@@ -297,16 +297,16 @@ static int try_calls(void)
     return 0;
 }
 
-/* Every refusal that document 01 gives a call must have come, and each point gone on or ended. */
+/* Every refusal that docs/STEPS.md gives a call must have come, and each point gone on or ended. */
 static int report(void)
 {
-    static const uint8_t due[KINDS][8] = {{0, 1, 2}, {0, 1, 3, 4, 5, 6, 7}, {0, 1, 3, 4, 6, 8}, {0, 1, 9, 10, ANSWER_ENDED},
-                                          {0, 1, 9, 10, ANSWER_ENDED}, {0, 1, 4}, {0, 1, 4}, {0, 1, 4, 11, 10, 12}};
+    static const uint8_t due[KINDS][8] = {{0, 1, 2}, {0, 1, 3, 4, 5, 6, 7}, {0, 1, 3, 4, 6, 8}, {0, 1, 9, 10, BENCH_ENDED},
+                                          {0, 1, 9, 10, BENCH_ENDED}, {0, 1, 4}, {0, 1, 4}, {0, 1, 4, 11, 10, 12}};
     int missing = 0;
     for (int k = 0; k < KINDS; k++) {
         printf("%-8s", kind_names[k]);
         for (int i = 0; i < 8 && (i == 0 || due[k][i] != 0); i++) {
-            printf(" %s%u: %llu", due[k][i] == ANSWER_ENDED ? "ended " : "", due[k][i], (unsigned long long)seen[k][due[k][i]]);
+            printf(" %s%u: %llu", due[k][i] == BENCH_ENDED ? "ended " : "", due[k][i], (unsigned long long)seen[k][due[k][i]]);
             missing += seen[k][due[k][i]] == 0;
         }
         printf("\n");

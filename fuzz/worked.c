@@ -1,4 +1,4 @@
-/* The worked runs of document 01, on both sides: L 2, Q 1, N 4. */
+/* The worked runs on both sides: L 2, Q 1, N 4. Those that crates/runs proves, and some refusals. */
 #include "../benchmark/sides.h"
 
 #include <stdio.h>
@@ -18,21 +18,21 @@ static int wrong;
         }                                                                                                    \
     } while (0)
 
-static uint16_t t[WORDS], end[END_WORDS];
+static uint16_t t[WORDS], end[BENCH_END_WORDS];
 
 static void fresh(const struct side *s) { EXPECT(s->fresh(t, WORDS, 2, 1, 4) == 0); }
 
-static unsigned enqueue(const struct side *s, uint16_t l, uint16_t n) { return answer_code(s->begin_enqueue(t, WORDS, l, 1, n)); }
-static unsigned dequeue(const struct side *s, uint16_t l) { return answer_code(s->begin_dequeue(t, WORDS, l, 1)); }
+static unsigned enqueue(const struct side *s, uint16_t l, uint16_t n) { return bench_code(s->begin_enqueue(t, WORDS, l, 1, n)); }
+static unsigned dequeue(const struct side *s, uint16_t l) { return bench_code(s->begin_dequeue(t, WORDS, l, 1)); }
 
 static void steps(const struct side *s, uint16_t n) { EXPECT(s->run(t, WORDS, n, end) == n); }
 
 /* Runs the serving operation to its end: this operation, node and steps. */
 static void ends(const struct side *s, uint16_t op, uint16_t level, uint16_t node, uint16_t took)
 {
-    EXPECT(answer_code(s->run(t, WORDS, ENOUGH, end)) == ANSWER_ENDED);
-    EXPECT(end[END_OP] == op && end[END_LEVEL] == level && end[END_QUEUE] == 1);
-    EXPECT(end[END_NODE] == node && end[END_STEPS] == took);
+    EXPECT(bench_code(s->run(t, WORDS, ENOUGH, end)) == BENCH_ENDED);
+    EXPECT(end[BENCH_END_OP] == op && end[BENCH_END_LEVEL] == level && end[BENCH_END_QUEUE] == 1);
+    EXPECT(end[BENCH_END_NODE] == node && end[BENCH_END_STEPS] == took);
 }
 
 static void lists(const struct side *s, unsigned count, uint16_t a, uint16_t b, uint16_t c)
@@ -58,13 +58,13 @@ static void worked(const struct side *s)
     fresh(s), enqueue(s, 0, 2), steps(s, 6), enqueue(s, 1, 3), ends(s, 1, 1, 3, 16);
     uint16_t ended_3[WORDS];
     memcpy(ended_3, t, sizeof t);
-    EXPECT(answer_code(s->run(t, WORDS, ENOUGH, end)) == ANSWER_ENDED && end[END_NODE] == 2);
+    EXPECT(bench_code(s->run(t, WORDS, ENOUGH, end)) == BENCH_ENDED && end[BENCH_END_NODE] == 2);
     lists(s, 2, 3, 2, 0);
     memcpy(t, ended_3, sizeof t);
     dequeue(s, 1), ends(s, 2, 1, 3, 28), dequeue(s, 1), ends(s, 2, 1, 0, 2);
 
     fresh(s), enqueue(s, 0, 2), steps(s, 8), enqueue(s, 1, 3), ends(s, 1, 1, 3, 14);
-    EXPECT(answer_code(s->run(t, WORDS, ENOUGH, end)) == ANSWER_ENDED && end[END_NODE] == 2);
+    EXPECT(bench_code(s->run(t, WORDS, ENOUGH, end)) == BENCH_ENDED && end[BENCH_END_NODE] == 2);
     lists(s, 2, 2, 3, 0);
 
     fresh(s), enqueue(s, 0, 2), ends(s, 1, 0, 2, 10);
@@ -74,7 +74,7 @@ static void worked(const struct side *s)
     fresh(s);
     EXPECT(enqueue(s, 0, 1) == 5);
     EXPECT(enqueue(s, 1, 2) == 0 && enqueue(s, 0, 3) == 6);
-    EXPECT(answer_code(s->run(t, WORDS, ENOUGH, end)) == ANSWER_ENDED && enqueue(s, 1, 2) == 7);
+    EXPECT(bench_code(s->run(t, WORDS, ENOUGH, end)) == BENCH_ENDED && enqueue(s, 1, 2) == 7);
     fresh(s);
     EXPECT(dequeue(s, 0) == 0 && dequeue(s, 1) == 8);
 }
@@ -83,6 +83,6 @@ int main(void)
 {
     worked(&plain_side);
     worked(&our_side);
-    printf("worked runs: %s\n", wrong ? "WRONG" : "as document 01 says, on both sides");
+    printf("worked runs: %s\n", wrong ? "WRONG" : "as they are due, on both sides");
     return wrong != 0;
 }

@@ -1,5 +1,5 @@
 #!/usr/bin/env python3
-"""Makes the schedules of crates/corpus/stdin: by hand for each line of document 01, and by chance.
+"""Makes the schedules of crates/corpus/stdin: by hand for each rule of docs/SCHEDULE.md and docs/STEPS.md, and by chance.
 
     second/make_corpus.py DIR    writes DIR/stdin; second/bench.py --write DIR then makes DIR/stdout
 

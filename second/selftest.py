@@ -1,5 +1,5 @@
 #!/usr/bin/env python3
-"""Holds second/bench.py to the worked runs, and examples/README.md to second/bench.py.
+"""Holds second/bench.py to the worked runs, and examples/README.md and docs/SCHEDULE.md to second/bench.py.
 
     second/selftest.py
 """
@@ -45,6 +45,13 @@ def examples():
         return re.findall(r"^## ([a-z0-9-]+)\n.*?^```\n(.*?)^```$", page.read(), re.M | re.S)
 
 
+def texts():
+    """The text and the log of each row of docs/SCHEDULE.md that shows them."""
+    with open(HERE + "/../docs/SCHEDULE.md") as page:
+        rows = re.findall(r"^\| (?:`(.*?)`|empty) \| .* \| `(.*)` \|$", page.read(), re.M)
+    return [(text.replace("\\n", "\n").replace("\\r", "\r").encode(), log.replace("` `", "\n") + "\n") for text, log in rows]
+
+
 def differing():
     for name, events, log in RUNS:
         got = log_of(schedule("2 1 4", events)).decode()
@@ -59,10 +66,14 @@ def differing():
             got = log_of(text.read()).decode()
         if got != log:
             yield f"examples/{name}.schedule: {got!r}"
+    for text, log in texts():
+        got = log_of(text).decode()
+        if got != log:
+            yield f"docs/SCHEDULE.md: the log of {text} is {got!r}"
 
 
 if __name__ == "__main__":
     wrong = list(differing())
     if wrong:
         sys.exit("\n".join(wrong))
-    print(f"{len(RUNS)} worked runs and {len(examples())} examples agree")
+    print(f"{len(RUNS)} worked runs, {len(examples())} examples and {len(texts())} texts agree")

@@ -1,6 +1,8 @@
 -- An answer says one thing only: two answers that say the same are the same. A contract is one equation between what the
 -- definition gives and what is said, with every lent word afterwards; so two results that it allows coincide.
+use Prim.Native.Nat.{ℕ}
 use mathlib.Core.Path.{_≡_, sym, _∙_, ap}
+use mathlib.Core.Bool.{Bool}
 use Rattle.answers.specs.declared.Done.{Done}
 use Rattle.answers.specs.declared.Done.the-variants as done
 use Rattle.answers.specs.declared.Stepped.{Stepped}
@@ -13,11 +15,14 @@ use Rattle.answers.specs.declared.Counted.{Counted}
 use Rattle.answers.specs.declared.Counted.the-variants as counted
 use Rattle.answers.specs.Said.{Said, doneSays, stepSays, runSays, quietSays, countSays}
 
--- whatever the answers are and whatever is lent
-pub once : {A S B : Type 0} (say : A → Said S) → ((a b : A) → say a ≡ say b → a ≡ b) → {x : Said S × B} {a b : A} {t u : B}
+-- of a call that only reads, whatever it answers
+pub once-read : {A S : Type 0} (say : A → S) → ((a b : A) → say a ≡ say b → a ≡ b) → {x : S} {a b : A} → x ≡ say a → x ≡ say b → a ≡ b
+once-read say one {a = a} {b = b} p q = one a b (sym p ∙ q)
+
+-- of a call that changes what it is lent, whatever that is
+pub once : {A S B : Type 0} (say : A → S) → ((a b : A) → say a ≡ say b → a ≡ b) → {x : S × B} {a b : A} {t u : B}
     → x ≡ (say a, t) → x ≡ (say b, u) → (a ≡ b) × (t ≡ u)
-once say one {a = a} {b = b} p q =
-    let e = sym p ∙ q in (one a b (ap (λ y. y .0) e), ap (λ y. y .1) e)
+once say one p q = (once-read say one (ap (λ y. y .0) p) (ap (λ y. y .0) q), ap (λ y. y .1) (sym p ∙ q))
 
 pub one-done : (a b : Done) → doneSays a ≡ doneSays b → a ≡ b
 one-done done.Yes = elim [ done.Yes ↦ λ e. cc | done.Refused y ↦ λ e. cc ]
@@ -43,3 +48,10 @@ one-quiet (quiet.Refused x) = elim [ quiet.Yes ↦ λ e. cc | quiet.No ↦ λ e.
 pub one-count : (a b : Counted) → countSays a ≡ countSays b → a ≡ b
 one-count (counted.Are x) = elim [ counted.Are y ↦ λ e. cc | counted.Refused y ↦ λ e. cc ]
 one-count (counted.Refused x) = elim [ counted.Are y ↦ λ e. cc | counted.Refused y ↦ λ e. cc ]
+
+-- of `quiet` and `waiting`
+pub one-quiet-answer : {x : Said Bool} {a b : Quiet} → x ≡ quietSays a → x ≡ quietSays b → a ≡ b
+one-quiet-answer p q = once-read quietSays one-quiet p q
+
+pub one-waiting-answer : {x : Said ℕ} {a b : Counted} → x ≡ countSays a → x ≡ countSays b → a ≡ b
+one-waiting-answer p q = once-read countSays one-count p q

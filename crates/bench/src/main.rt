@@ -1,20 +1,18 @@
 // The bench program: a schedule on standard input, its log on standard output.
-use libc::STDERR_FILENO;
-use libc::STDIN_FILENO;
-use libc::STDOUT_FILENO;
-use loglines::Logged;
+use log::Logged;
+use streams::Input;
 
 fn main() {
     let mut text = [0u8; 65537];
-    let mut table = [0u16; 2276];
-    let mut room = [0u8; 262144];
-    let n = io::read_full(STDIN_FILENO, &mut text);
+    let mut table = [0u16; log::TABLE];
+    let mut room = [0u8; log::ROOM];
+    let Input::Bytes(n) = streams::read_input(&mut text) else {
+        return;
+    };
     match log::write_log(&text[..n], &mut table, &mut room) {
         Logged::Bytes(m) => {
-            io::write_all(STDOUT_FILENO, &room[..m]);
+            streams::write_output(&room[..m]);
         }
-        Logged::Refused(_) => {
-            io::write_all(STDERR_FILENO, b"bench: the log is longer than its room\n");
-        }
+        Logged::Refused(_) => streams::say(b"bench: the table or the room is too small\n"),
     }
 }

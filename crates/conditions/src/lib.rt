@@ -60,7 +60,7 @@ fn some_level(t: &[u16], s: Sizes, w: Sought, from: usize, to: usize) -> bool
 pub fn no_level(s: Sizes, l: Level) -> bool
     ensures { λ r. ⌜ r ≡ noLevel s l ⌝ }
 {
-    s.levels <= words::wide(l.0)
+    s.levels <= l.index()
 }
 
 pub fn no_queue(s: Sizes, q: Queue) -> bool
@@ -80,7 +80,7 @@ pub fn is_busy(t: &[u16], s: Sizes, l: Level) -> bool
     requires { ⌜ Fits s (now t) ⌝ }
     ensures { λ r. ⌜ r ≡ busy s (now (t .entry)) l ⌝ }
 {
-    some_level(t, s, Sought::Running, words::wide(l.0), s.levels)
+    some_level(t, s, Sought::Running, l.index(), s.levels)
 }
 
 pub fn in_use(t: &[u16], s: Sizes, n: Node) -> bool
@@ -96,7 +96,7 @@ pub fn is_dequeued(t: &[u16], s: Sizes, l: Level, q: Queue) -> bool
     requires { ⌜ l .0 ≤ s .levels ⌝ }
     ensures { λ r. ⌜ r ≡ dequeued s (now (t .entry)) l q ⌝ }
 {
-    some_level(t, s, Sought::DequeueOn(q), 0, words::wide(l.0))
+    some_level(t, s, Sought::DequeueOn(q), 0, l.index())
 }
 
 pub fn is_unquiet(t: &[u16], s: Sizes, q: Queue) -> bool

@@ -3,7 +3,7 @@ ghost use Prim.Native.Nat.{_≤_};
 ghost use lib.ListN.{length};
 use libc::STDIN_FILENO;
 use libc::STDOUT_FILENO;
-use loglines::Logged;
+use log::Logged;
 
 fn digit(b: u8) -> usize
     ensures { λ r. ⌜ r ≤ 9 ⌝ }
@@ -68,7 +68,7 @@ fn run_cases(text: &mut [u8], table: &mut [u16], room: &mut [u8]) {
 
 fn main() {
     let mut text = [0u8; 65537];
-    let mut table = [0u16; 2276];
-    let mut room = [0u8; 262144];
+    let mut table = [0u16; log::TABLE];
+    let mut room = [0u8; log::ROOM];
     run_cases(&mut text, &mut table, &mut room);
 }

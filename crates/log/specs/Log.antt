@@ -2,7 +2,7 @@
 use Prim.Native.Nat.{ℕ, zero, suc}
 use mathlib.Core.List.{List, [], _++_}
 use mathlib.Core.Bool.{cond}
-use lib.ListN.{length, getD, take, replicate}
+use lib.ListN.{length, getD, take, drop, replicate}
 use lib.Dec.{ltb}
 use Rattle.words.specs.declared.Sizes.{Sizes}
 use Rattle.words.specs.Layout.{queue}
@@ -14,8 +14,8 @@ use Rattle.schedule.specs.Whole.{scheduleReading}
 use Rattle.fresh.specs.Fresh.{freshOf}
 use Rattle.asks.specs.Listing.{listingOf}
 use Rattle.loglines.specs.Lines.{textLine, sizesLine, queueLine, unquietLine}
-use Rattle.loglines.specs.Written.{written}
 use Rattle.play.specs.Play.{eventsOf}
+use Rattle.log.specs.declared.Logged.{Logged}
 
 -- `Q queue` and its listing, or `U queue`
 unfoldable pub listedLine : ℕ → Said ℕ × List ℕ → List ℕ
@@ -55,7 +55,21 @@ logText text t = readLog t (scheduleReading text)
 abbrev pub largest : ℕ
 largest = 2276
 
--- refusals 1 for a table of fewer words, and 12; what is answered, the room and the table afterwards
+-- the bytes of room that every log fits: six times those of the longest text
+abbrev pub logRoom : ℕ
+logRoom = 393216
+
+-- the log at the room's start and nothing past it, and the table afterwards
+unfoldable pub laid : List ℕ × List ℕ → List ℕ → (Said ℕ × List ℕ) × List ℕ
+laid p room = ((says (length (p .0)), p .0 ++ drop (length (p .0)) room), p .1)
+
+-- refusals 1 and 12 for a table or a room that is too small, whatever the text is
 unfoldable pub logOf : List ℕ → List ℕ → List ℕ → (Said ℕ × List ℕ) × List ℕ
 logOf text t room =
-    cond (ltb (length t) largest) ((refused 1, room), t) (written (logText text t .0) room, logText text t .1)
+    cond (ltb (length t) largest) ((refused 1, room), t)
+    (cond (ltb (length room) logRoom) ((refused 12, room), t) (laid (logText text t) room))
+
+-- which of these each answer of the code is
+abbrev pub logSays : Logged → Said ℕ
+logSays (Logged.Bytes n) = says n
+logSays (Logged.Refused r) = refused r

@@ -4,9 +4,9 @@ use mathlib.Core.Path.{_≡_, sym, _∙_, ap}
 use mathlib.Core.List.{List}
 use Rattle.answers.specs.Said.{Said}
 use Rattle.answers.specs.Once.{once}
-use Rattle.loglines.specs.declared.Logged.{Logged}
-use Rattle.loglines.specs.declared.Logged.the-variants as logged
-use Rattle.loglines.specs.Written.{logSays}
+use Rattle.log.specs.declared.Logged.{Logged}
+use Rattle.log.specs.declared.Logged.the-variants as logged
+use Rattle.log.specs.Log.{logSays}
 
 one-logged : (a b : Logged) → logSays a ≡ logSays b → a ≡ b
 one-logged (logged.Bytes n) = elim [ logged.Bytes m ↦ λ e. cc | logged.Refused m ↦ λ e. cc ]

@@ -1,4 +1,3 @@
 pub mod Lines
-pub mod Written
-pub mod Pen
+pub mod Ink
 pub mod Laws

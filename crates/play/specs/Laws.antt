@@ -13,43 +13,44 @@ use Rattle.text.specs.Laws.{onto-is, given-is}
 use Rattle.steps.specs.Run.{runOf}
 use Rattle.schedule.specs.Whole.{eventsReading}
 use Rattle.loglines.specs.Lines.{endLine, refusalLine}
-use Rattle.loglines.specs.Pen.{ink}
+use Rattle.loglines.specs.declared.Pen.{Pen}
+use Rattle.loglines.specs.Ink.{ink}
 use Rattle.loglines.specs.Laws.{ink-append, ink-then}
 use Rattle.play.specs.Play.{Played, before, stepsOf, eventOf, follow, eventsOf}
 use Rattle.play.specs.Parts.{into, readThen, atPlace}
 use Rattle.play.specs.Steps.{ranPlayed, steps-run}
 
-into-before : {A : Type 0} (x y : Said ℕ × List ℕ) (line : List ℕ) (p : List ℕ × A) → ink x line ≡ y → into x (before line p) ≡ into y p
-into-before x y line p e = ap (λ (w : Said ℕ × List ℕ). (w, p .1)) (ink-append x line (p .0) ∙ rw e)
+into-before : {A : Type 0} (x y : Pen × List ℕ) (line : List ℕ) (p : List ℕ × A) → ink x line ≡ y → into x (before line p) ≡ into y p
+into-before x y line p e = ap (λ (w : Pen × List ℕ). (w, p .1)) (ink-append x line (p .0) ∙ rw e)
 
-into-none : {A : Type 0} (x : Said ℕ × List ℕ) (a : A) → into x ([], a) ≡ (x, a)
+into-none : {A : Type 0} (x : Pen × List ℕ) (a : A) → into x ([], a) ≡ (x, a)
 unfolding ink
 into-none x a = refl
 
 -- an event without lines
-pub into-quiet : {A : Type 0} (x : Said ℕ × List ℕ) (a b : A) → a ≡ b → into x ([], a) ≡ (x, b)
+pub into-quiet : {A : Type 0} (x : Pen × List ℕ) (a b : A) → a ≡ b → into x ([], a) ≡ (x, b)
 into-quiet x a b e = into-none x a ∙ rw e
 
 -- a run that ended an operation, and one that stopped otherwise
-pub run-ended : (x y : Said ℕ × List ℕ) (left n : ℕ) (t u : List ℕ) (e : End) → 0 < left → runOf left t ≡ (says (after n (an-end e)), u)
+pub run-ended : (x y : Pen × List ℕ) (left n : ℕ) (t u : List ℕ) (e : End) → 0 < left → runOf left t ≡ (says (after n (an-end e)), u)
     → ink x (endLine e) ≡ y → into x (stepsOf left t) ≡ into y (stepsOf (left - n) u)
 unfolding ranPlayed
 run-ended x y left n t u e h r i =
     ap (into x) (steps-run left t h ∙ ap (ranPlayed left) r) ∙ into-before x y (endLine e) (stepsOf (left - n) u) i
 
-pub run-stopped : (x : Said ℕ × List ℕ) (left : ℕ) (t u : List ℕ) (a : Said Run) (d : Said Unit) → 0 < left → runOf left t ≡ (a, u)
+pub run-stopped : (x : Pen × List ℕ) (left : ℕ) (t u : List ℕ) (a : Said Run) (d : Said Unit) → 0 < left → runOf left t ≡ (a, u)
     → ranPlayed left (a, u) ≡ ([], (d, u)) → into x (stepsOf left t) ≡ (x, (d, u))
 run-stopped x left t u a d h r e =
     ap (into x) (steps-run left t h ∙ ap (ranPlayed left) r ∙ e) ∙ into-none x (d, u)
 
-pub steps-none : (x : Said ℕ × List ℕ) (left : ℕ) (t : List ℕ) → left ≤ 0 → into x (stepsOf left t) ≡ (x, (says tt, t))
+pub steps-none : (x : Pen × List ℕ) (left : ℕ) (t : List ℕ) → left ≤ 0 → into x (stepsOf left t) ≡ (x, (says tt, t))
 unfolding stepsOf
 steps-none x zero t h = into-none x (says tt, t)
 steps-none x (suc n) t h = absurd (omega arith)
 
 -- ---- an event, and those that follow it
 
-module _ (x y : Said ℕ × List ℕ) (i : ℕ) (others : List ℕ → List ℕ × List ℕ) where
+module _ (x y : Pen × List ℕ) (i : ℕ) (others : List ℕ → List ℕ × List ℕ) where
   follow-on : (p : Played) (u : List ℕ) → into x p ≡ (y, (says tt, u)) → into x (follow i others p) ≡ into y (others u)
   unfolding follow
   follow-on (line, (says a, t)) u e =
@@ -59,7 +60,7 @@ module _ (x y : Said ℕ × List ℕ) (i : ℕ) (others : List ℕ → List ℕ 
   follow-on (line, (refused r, t)) u e =
       let f : _≡_ {A = Said Unit} (refused r) (says tt) = ap (λ q. q .1 .0) e in let z : _≡_ {A = ℕ} 0 1 = cc in absurd (omega arith)
 
-  follow-stop : (z : Said ℕ × List ℕ) (p : Played) (r : ℕ) (u : List ℕ) → into x p ≡ (y, (refused r, u)) → ink y (refusalLine i r) ≡ z
+  follow-stop : (z : Pen × List ℕ) (p : Played) (r : ℕ) (u : List ℕ) → into x p ≡ (y, (refused r, u)) → ink y (refusalLine i r) ≡ z
       → into x (follow i others p) ≡ (z, u)
   unfolding follow
   follow-stop z (line, (says a, t)) r u e k =
@@ -69,7 +70,7 @@ module _ (x y : Said ℕ × List ℕ) (i : ℕ) (others : List ℕ → List ℕ 
       let g : t ≡ u = ap (λ w. w .1 .1) e in
       let d : _≡_ {A = Said Unit} (refused q) (refused r) = ap (λ w. w .1 .0) e in
       let h : q ≡ r = cc in
-      rw (g, h) (ap (λ (w : Said ℕ × List ℕ). (w, u)) (ink-then x line (refusalLine i r) f k))
+      rw (g, h) (ap (λ (w : Pen × List ℕ). (w, u)) (ink-then x line (refusalLine i r) f k))
 
 place-more : (k i : ℕ) (text : List ℕ) (at next : ℕ) (t : List ℕ) (e : Event) → 0 < k → eventReading text at ≡ gives (e, next)
     → atPlace k i text at t ≡ follow i (atPlace (k - 1) (i + 1) text next) (eventOf e t)
@@ -78,7 +79,7 @@ place-more zero i text at next t e h r = absurd (omega arith)
 place-more (suc k) i text at next t e h r = rw (r, sub-one, add-one)
 
 -- event i + 1 of so many was read and performed: it was not refused, or it was
-module _ (x y : Said ℕ × List ℕ) (count i : ℕ) (text : List ℕ) (at next : ℕ) (t u : List ℕ) (e : Event) (more : i < count)
+module _ (x y : Pen × List ℕ) (count i : ℕ) (text : List ℕ) (at next : ℕ) (t u : List ℕ) (e : Event) (more : i < count)
     (reads : eventReading text at ≡ gives (e, next)) where
   pub event-played : into x (eventOf e t) ≡ (y, (says tt, u))
       → into x (atPlace (count - i) (i + 1) text at t) ≡ into y (atPlace (count - (i + 1)) (i + 1 + 1) text next u)
@@ -87,23 +88,23 @@ module _ (x y : Said ℕ × List ℕ) (count i : ℕ) (text : List ℕ) (at next
       ap (into x) (place-more (count - i) (i + 1) text at next t e (omega arith) reads)
       ∙ rw k (follow-on x y (i + 1) _ (eventOf e t) u p)
 
-  pub event-refused : (z : Said ℕ × List ℕ) (r : ℕ) → into x (eventOf e t) ≡ (y, (refused r, u)) → ink y (refusalLine (i + 1) r) ≡ z
+  pub event-refused : (z : Pen × List ℕ) (r : ℕ) → into x (eventOf e t) ≡ (y, (refused r, u)) → ink y (refusalLine (i + 1) r) ≡ z
       → into x (atPlace (count - i) (i + 1) text at t) ≡ (z, u)
   event-refused z r p w =
       ap (into x) (place-more (count - i) (i + 1) text at next t e (omega arith) reads)
       ∙ follow-stop x y (i + 1) _ z (eventOf e t) r u p w
 
-pub place-wrong : (x : Said ℕ × List ℕ) (k i : ℕ) (text : List ℕ) (at : ℕ) (t : List ℕ) (n : ℕ) (vs : List ℕ) → eventReading text at ≡ refuses n vs
+pub place-wrong : (x : Pen × List ℕ) (k i : ℕ) (text : List ℕ) (at : ℕ) (t : List ℕ) (n : ℕ) (vs : List ℕ) → eventReading text at ≡ refuses n vs
     → into x (atPlace k i text at t) ≡ (x, t)
 unfolding atPlace
 place-wrong x zero i text at t n vs r = into-none x t
 place-wrong x (suc k) i text at t n vs r = rw r (into-none x t)
 
-pub place-start : (x : Said ℕ × List ℕ) (count : ℕ) (text : List ℕ) (at : ℕ) (t : List ℕ)
+pub place-start : (x : Pen × List ℕ) (count : ℕ) (text : List ℕ) (at : ℕ) (t : List ℕ)
     → into x (atPlace count 1 text at t) ≡ into x (atPlace (count - 0) (0 + 1) text at t)
 place-start x count text at t = let e : count ≡ count - 0 = omega arith in ap (λ (k : ℕ). into x (atPlace k 1 text at t)) e
 
-pub place-none : (x : Said ℕ × List ℕ) (k i : ℕ) (text : List ℕ) (at : ℕ) (t : List ℕ) → k ≤ 0 → into x (atPlace k i text at t) ≡ (x, t)
+pub place-none : (x : Pen × List ℕ) (k i : ℕ) (text : List ℕ) (at : ℕ) (t : List ℕ) → k ≤ 0 → into x (atPlace k i text at t) ≡ (x, t)
 unfolding atPlace
 place-none x zero i text at t h = into-none x t
 place-none x (suc k) i text at t h = absurd (omega arith)

@@ -1,15 +1,15 @@
 -- What the parts of the performing promise each other.
 use Prim.Native.Nat.{ℕ, zero, suc}
 use mathlib.Core.List.{List, []}
-use Rattle.answers.specs.Said.{Said}
 use Rattle.text.specs.declared.Event.{Event}
 use Rattle.text.specs.Answer.{Answer, gives, refuses}
 use Rattle.text.specs.Reading.{eventReading}
-use Rattle.loglines.specs.Pen.{ink}
+use Rattle.loglines.specs.declared.Pen.{Pen}
+use Rattle.loglines.specs.Ink.{ink}
 use Rattle.play.specs.Play.{eventOf, follow}
 
 -- what is written, and what came of it
-abbrev pub into : {A : Type 0} → Said ℕ × List ℕ → List ℕ × A → (Said ℕ × List ℕ) × A
+abbrev pub into : {A : Type 0} → Pen × List ℕ → List ℕ × A → (Pen × List ℕ) × A
 into x p = (ink x (p .0), p .1)
 
 abbrev pub readThen : ℕ → (ℕ → List ℕ → List ℕ × List ℕ) → List ℕ → Answer (Event × ℕ) → List ℕ × List ℕ

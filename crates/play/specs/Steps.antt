@@ -28,14 +28,14 @@ use Rattle.loglines.specs.Lines.{endLine}
 use Rattle.play.specs.Play.{Played, before, goOn, stepsOf}
 
 -- the refusals of a step of a table that was measured
-abbrev Known : Said Step → Type 0
+abbrev pub Known : Said Step → Type 0
 Known (refused r) = (r ≡ 9) ⊎ (r ≡ 10)
 Known (says x) = Unit
 
 -- a step keeps the table's sizes
-record Kept (s : Sizes) (x : Out) : Type 0 where
-  sized : measured (x .1) ≡ Sized s
-  known : Known (x .0)
+pub record Kept (s : Sizes) (x : Out) : Type 0 where
+  pub sized : measured (x .1) ≡ Sized s
+  pub known : Known (x .0)
 
 module _ (s : Sizes) where
   damaged : (t : List ℕ) → measured t ≡ Sized s → Kept s (refused 10, t)
@@ -66,11 +66,11 @@ module _ (s : Sizes) where
   served-kept t Nobody m = record { sized = m; known = inl refl }
   served-kept t (At l) m = access-kept (sound s _) _ t m (λ h. performed-kept t l _ _ m)
 
-  step-kept : (t : List ℕ) → measured t ≡ Sized s → Kept s (stepSized s t)
+  pub step-kept : (t : List ℕ) → measured t ≡ Sized s → Kept s (stepSized s t)
   unfolding stepSized
   step-kept t m = served-kept t _ m
 
-  step-is : (t : List ℕ) → measured t ≡ Sized s → stepOf t ≡ stepSized s t
+  pub step-is : (t : List ℕ) → measured t ≡ Sized s → stepOf t ≡ stepSized s t
   unfolding stepOf stepMeasured
   step-is t m = rw m
 

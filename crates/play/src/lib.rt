@@ -1,25 +1,24 @@
 // The events of a schedule, performed in order; what ends and what is refused goes into the log.
 ghost use mathlib.Core.Path.{_≡_};
 ghost use Rattle.answers.specs.Said.{doneSays};
-ghost use Rattle.loglines.specs.Written.{logSays};
 ghost use Rattle.play.specs.Play.{stepsOf, eventOf};
 ghost use Rattle.play.specs.Parts.{into, atPlace};
 use answers::Done;
 use answers::Ran;
-use loglines::Logged;
+use loglines::Pen;
 use text::Event;
 use text::EventRead;
 
 // The log so far, and whether the event was refused.
 pub struct Turn {
-    pub log: Logged,
+    pub pen: Pen,
     pub done: Done,
 }
 
-fn play_steps(table: &mut [u16], room: &mut [u8], log: Logged, count: u16) -> Turn
-    ensures { λ r. ⌜ into (logSays log, now (room .entry)) (stepsOf count (now (table .entry))) ≡ ((logSays (r .log), now (room .exit)), (doneSays (r .done), now (table .exit))) ⌝ }
+fn play_steps(table: &mut [u16], room: &mut [u8], pen: Pen, count: u16) -> Turn
+    ensures { λ r. ⌜ into (pen, now (room .entry)) (stepsOf count (now (table .entry))) ≡ ((r .pen, now (room .exit)), (doneSays (r .done), now (table .exit))) ⌝ }
 {
-    let mut next = log;
+    let mut next = pen;
     let mut left = count;
     while 0 < left {
         match steps::run(table, left) {
@@ -29,49 +28,49 @@ fn play_steps(table: &mut [u16], room: &mut [u8], log: Logged, count: u16) -> Tu
             }
             Ran::Spent(_) => {
                 return Turn {
-                    log: next,
+                    pen: next,
                     done: Done::Yes,
                 };
             }
             Ran::Idle(_) => {
                 return Turn {
-                    log: next,
+                    pen: next,
                     done: Done::Refused(9),
                 };
             }
             Ran::Damaged(_) => {
                 return Turn {
-                    log: next,
+                    pen: next,
                     done: Done::Refused(10),
                 };
             }
             Ran::Refused(r) => {
                 return Turn {
-                    log: next,
+                    pen: next,
                     done: Done::Refused(r),
                 };
             }
         }
     }
     Turn {
-        log: next,
+        pen: next,
         done: Done::Yes,
     }
 }
 
-fn play_event(table: &mut [u16], room: &mut [u8], log: Logged, e: Event) -> Turn
-    ensures { λ r. ⌜ into (logSays log, now (room .entry)) (eventOf e (now (table .entry))) ≡ ((logSays (r .log), now (room .exit)), (doneSays (r .done), now (table .exit))) ⌝ }
+fn play_event(table: &mut [u16], room: &mut [u8], pen: Pen, e: Event) -> Turn
+    ensures { λ r. ⌜ into (pen, now (room .entry)) (eventOf e (now (table .entry))) ≡ ((r .pen, now (room .exit)), (doneSays (r .done), now (table .exit))) ⌝ }
 {
     match e {
         Event::Enqueue(l, q, n) => {
             let done = begins::begin_enqueue(table, l, q, n);
-            Turn { log, done }
+            Turn { pen, done }
         }
         Event::Dequeue(l, q) => {
             let done = begins::begin_dequeue(table, l, q);
-            Turn { log, done }
+            Turn { pen, done }
         }
-        Event::Steps(count) => play_steps(table, room, log, count),
+        Event::Steps(count) => play_steps(table, room, pen, count),
     }
 }
 
@@ -82,20 +81,20 @@ pub fn play_events(
     count: u16,
     table: &mut [u16],
     room: &mut [u8],
-    log: Logged,
-) -> Logged
-    ensures { λ r. ⌜ into (logSays log, now (room .entry)) (atPlace count 1 (now (text .entry)) place (now (table .entry))) ≡ ((logSays r, now (room .exit)), now (table .exit)) ⌝ }
+    pen: Pen,
+) -> Pen
+    ensures { λ r. ⌜ into (pen, now (room .entry)) (atPlace count 1 (now (text .entry)) place (now (table .entry))) ≡ ((r, now (room .exit)), now (table .exit)) ⌝ }
 {
-    let mut next = log;
+    let mut next = pen;
     let mut at = place;
     let mut i: u16 = 0;
     while i < count {
         i += 1;
-        match text::read_event(text, at) {
+        match reader::event_at(text, at) {
             EventRead::Read(e, after) => {
                 at = after;
                 let turn = play_event(table, room, next, e);
-                next = turn.log;
+                next = turn.pen;
                 let done = turn.done;
                 match done {
                     Done::Yes => {}

@@ -1,5 +1,7 @@
 -- The starred worked runs of document 01, as one list: L 2, Q 1, N 4.
 use Prim.Native.Nat.{ℕ}
+use Prim.Native.Char.{code}
+use Prim.Native.String.{String, [] as []ₛ, _∷_ as _∷ₛ_}
 use mathlib.Core.Path.{_≡_}
 use mathlib.Core.List.{List, [], _∷_, _++_}
 use lib.ListN.{length, replicate}
@@ -11,7 +13,6 @@ use Rattle.answers.specs.Said.{Said, refused, says}
 use Rattle.text.specs.declared.Opening.{Opening}
 use Rattle.text.specs.declared.Event.{Event}
 use Rattle.text.specs.declared.Event.the-variants.{Enqueue, Dequeue, Steps}
-use Rattle.text.specs.Text.{textOf}
 use Rattle.fresh.specs.Fresh.{freshOf}
 use Rattle.loglines.specs.Lines.{endLine, queueLine}
 use Rattle.log.specs.Log.{openingSizes, sizedLog, logText}
@@ -24,6 +25,11 @@ sizes = openingSizes (opening [])
 
 abbrev pub room : ℕ → List ℕ
 room n = replicate n 0
+
+-- the bytes of an ASCII text: the code of each character
+abbrev pub bytes : String → List ℕ
+bytes []ₛ = []
+bytes (c ∷ₛ s) = code c ∷ bytes s
 
 -- events and ended operations as a schedule and a log write them
 abbrev E : ℕ → ℕ → ℕ → Event
@@ -54,18 +60,18 @@ abbrev pub outcome : List Event → List ℕ × List ℕ
 outcome es = sizedLog (opening es) es (freshOf sizes (room 40))
 
 -- what a run shows: fresh answers this for so many words; these events end these operations and leave this listing; they leave
--- this head and tail; the program prints this for the text of these events
+-- this head and tail; the program, given this text, prints this
 pub data Run : Type 0 where
   fresh : ℕ → Said Unit → Run
   lists : List Event → List End → List ℕ → Run
   ends : List Event → ℕ → ℕ → Run
-  prints : List Event → List End → List ℕ → Run
+  prints : String → String → Run
 
 abbrev pub Holds : Run → Type 0
 Holds (fresh n answer) = freshOf sizes (room n) .0 ≡ answer
 Holds (lists es done nodes) = outcome es .0 ≡ lines done nodes
 Holds (ends es head tail) = (rd sizes (outcome es .1) (Head (queue 1)) ≡ head) × (rd sizes (outcome es .1) (Tail (queue 1)) ≡ tail)
-Holds (prints es done nodes) = logText (textOf (opening es) es) (room 40) .0 ≡ lines done nodes
+Holds (prints schedule log) = logText (bytes schedule) (room 40) .0 ≡ bytes log
 
 abbrev pub starred : List Run
 starred =
@@ -76,7 +82,7 @@ starred =
     ∷ lists (D 0 1 ∷ S 2 ∷ []) (D· 0 1 0 2 ∷ []) []
     ∷ lists (E 0 1 2 ∷ S 10 ∷ D 0 1 ∷ S 22 ∷ []) (E· 0 1 2 10 ∷ D· 0 1 2 22 ∷ []) []
     ∷ ends (E 0 1 2 ∷ S 10 ∷ D 0 1 ∷ S 22 ∷ []) 1 1
-    ∷ prints (E 0 1 2 ∷ S 4 ∷ E 1 1 3 ∷ S 13 ∷ E 1 1 4 ∷ S 21 ∷ []) (E· 1 1 3 13 ∷ E· 1 1 4 13 ∷ E· 0 1 2 12 ∷ []) (2 ∷ 4 ∷ 3 ∷ [])
+    ∷ prints "3\n2\n1\n4\n6\nE 0 1 2\nS 4\nE 1 1 3\nS 13\nE 1 1 4\nS 21\n" "E 1 1 3 13\nE 1 1 4 13\nE 0 1 2 12\nQ 1 2 4 3\n"
     ∷ lists (E 0 1 2 ∷ S 6 ∷ E 1 1 3 ∷ S 16 ∷ S 4 ∷ []) (E· 1 1 3 16 ∷ E· 0 1 2 10 ∷ []) (3 ∷ 2 ∷ [])
     ∷ lists (E 0 1 2 ∷ S 6 ∷ E 1 1 3 ∷ S 16 ∷ D 1 1 ∷ S 28 ∷ D 1 1 ∷ S 2 ∷ S 4 ∷ [])
     (E· 1 1 3 16 ∷ D· 1 1 3 28 ∷ D· 1 1 0 2 ∷ E· 0 1 2 10 ∷ []) (2 ∷ [])

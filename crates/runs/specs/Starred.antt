@@ -10,7 +10,6 @@ use Rattle.begins.specs.Begin.{unless, enqueueWhy, enqueueSized, enqueueMeasure
 use Rattle.decimals.specs.Decimals.{widthOf, lastDigits, digitsOf, fieldOf, isDigit, goesOn, restIn, fieldIn, fieldAt, restOf}
 use Rattle.heads.specs.Heads.{begins, standsAt}
 use Rattle.text.specs.Reading.{lfs, lineAt, lineStarts, wrongAt, enqueueIn, dequeueIn, stepsIn, eventIn, numberLine, sizesReading, found, eventReading, endReading}
-use Rattle.text.specs.Text.{openingText, eventText, eventsText, textOf}
 use Rattle.schedule.specs.Whole.{eventsReading, scheduleReading}
 use Rattle.fresh.specs.Fresh.{ended, freshTable, freshOf}
 use Rattle.asks.specs.Listing.{before, chain, nodesFrom, listed, listingSized, listingMeasured, listingOf}
@@ -20,5 +19,5 @@ use Rattle.log.specs.Log.{listedLine, queueOf, queuesOf, sizedLog, readLog, log
 use Rattle.runs.specs.Runs.{Holds, starred, All}
 
 pub starred-hold : All Holds starred
-unfolding within limits putCounts agrees measured has addr rd wr frameAt frameOf putFrame counted ifEq belowKTo belowMTo walkTo pointOf row serving strays sound settled performed stepFrame stepServed stepSized stepMeasured stepOf sought some noLevel noQueue noNode busy inUse dequeued unquiet unless enqueueWhy enqueueSized enqueueMeasured enqueueOf dequeueWhy dequeueSized dequeueMeasured dequeueOf widthOf lastDigits digitsOf fieldOf isDigit goesOn restIn fieldIn fieldAt restOf begins standsAt lfs lineAt lineStarts wrongAt enqueueIn dequeueIn stepsIn eventIn numberLine sizesReading found eventReading endReading openingText eventText eventsText textOf eventsReading scheduleReading ended freshTable freshOf before chain nodesFrom listed listingSized listingMeasured listingOf textLine refusalLine endLine nodesText queueLine unquietLine goOn stepsOf eventOf follow eventsOf listedLine queueOf queuesOf sizedLog readLog logText
+unfolding within limits putCounts agrees measured has addr rd wr frameAt frameOf putFrame counted ifEq belowKTo belowMTo walkTo pointOf row serving strays sound settled performed stepFrame stepServed stepSized stepMeasured stepOf sought some noLevel noQueue noNode busy inUse dequeued unquiet unless enqueueWhy enqueueSized enqueueMeasured enqueueOf dequeueWhy dequeueSized dequeueMeasured dequeueOf widthOf lastDigits digitsOf fieldOf isDigit goesOn restIn fieldIn fieldAt restOf begins standsAt lfs lineAt lineStarts wrongAt enqueueIn dequeueIn stepsIn eventIn numberLine sizesReading found eventReading endReading eventsReading scheduleReading ended freshTable freshOf before chain nodesFrom listed listingSized listingMeasured listingOf textLine refusalLine endLine nodesText queueLine unquietLine goOn stepsOf eventOf follow eventsOf listedLine queueOf queuesOf sizedLog readLog logText
 starred-hold = (refl, (refl, (refl, (refl, (refl, (refl, ((refl, refl), (refl, (refl, (refl, (refl, (refl, tt))))))))))))

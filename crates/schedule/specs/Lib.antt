@@ -4,3 +4,4 @@ pub mod Meaning
 pub mod Readings
 pub mod Writings
 pub mod OneMeaning
+pub mod Unique

@@ -13,7 +13,7 @@ fn read_rest(text: &[u8], place: usize, count: u16) -> EndRead
     let mut at = place;
     let mut left = count;
     while 0 < left {
-        match text::read_event(text, at) {
+        match reader::event_at(text, at) {
             EventRead::Read(_, next) => {
                 at = next;
                 left -= 1;

@@ -30,7 +30,7 @@ use Rattle.steps.specs.Held.{followed, follow, held}
 -- ---- the op of a frame that goes on
 
 -- the op afterwards; o where the operation ended
-unfoldable opAfter : ℕ → After → ℕ
+unfoldable pub opAfter : ℕ → After → ℕ
 opAfter o (Go g) = g .op
 opAfter o (Done n) = o
 
@@ -47,13 +47,13 @@ either true n = refl
 either false n = refl
 
 -- what follows a row's access, where it loaded x
-unfoldable opOf : ℕ → ℕ → Row → ℕ
+unfoldable pub opOf : ℕ → ℕ → Row → ℕ
 opOf o x (loads w after) = opAfter o (after x)
 opOf o x (stores w v after) = opAfter o after
 opOf o x (frees n after) = opAfter o after
 opOf o x nothing = o
 
-op-kept : (p : Point) (f : Frame) (l top : Level) (x : ℕ) → opOf (f .op) x (row p f l top) ≡ f .op
+pub op-kept : (p : Point) (f : Frame) (l top : Level) (x : ℕ) → opOf (f .op) x (row p f l top) ≡ f .op
 unfolding opOf opAfter row belowKTo belowMTo walkTo
 op-kept =
     elim [

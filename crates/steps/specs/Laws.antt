@@ -1,12 +1,13 @@
 -- Facts about steps and runs that the code's proofs cite.
 use Prim.Native.Nat.{ℕ, zero, suc, _-_, _≤_, _<_}
 use mathlib.Core.Path.{_≡_, refl, ap, sym, _∙_}
+use mathlib.Core.Logic.{_≢_}
 use mathlib.Core.List.{List}
 use mathlib.Core.Bool.{Bool, true, false, cond}
 use native.Mathlib.Omega.{arith}
 use lib.ListN.{length}
 use lib.Dec.{eqb}
-use borrow.Author.Tests.{ne-eqb}
+use borrow.Author.Tests.{ne-eqb, eqb-false}
 use Rattle.words.specs.declared.Level.{Level}
 use Rattle.words.specs.declared.Sizes.{Sizes}
 use Rattle.words.specs.declared.Frame.{Frame}
@@ -54,6 +55,16 @@ serving-below s t (suc n) l e = by (eqb (frameOf s t (level n) .op) 0) (serving-
     by : (b : Bool) → (serving s t n ≡ At l → l .0 < n) → cond b (serving s t n) (At (level n)) ≡ At l → l .0 < suc n
     by true ih h = omega (arith, ih h)
     by false ih h = let z : n ≡ l .0 = cc in omega arith
+
+pub serving-runs : (s : Sizes) (t : List ℕ) (n : ℕ) (l : Level) → serving s t n ≡ At l → frameOf s t l .op ≢ 0
+unfolding serving
+serving-runs s t zero l e = let z : _≡_ {A = ℕ} 0 1 = cc in absurd (omega arith)
+serving-runs s t (suc n) l e = by (eqb (frameOf s t (level n) .op) 0) refl (serving-runs s t n l) e
+  where
+    by : (b : Bool) → eqb (frameOf s t (level n) .op) 0 ≡ b → (serving s t n ≡ At l → frameOf s t l .op ≢ 0)
+        → cond b (serving s t n) (At (level n)) ≡ At l → frameOf s t l .op ≢ 0
+    by true o ih h = ih h
+    by false o ih h = let z : level n ≡ l = cc in rw z at (eqb-false (frameOf s t (level n) .op) 0 o)
 
 -- ---- a step of a frame that is held beside the table
 

@@ -197,8 +197,8 @@ pub fn has_word(s: Sizes, w: Word) -> bool
     ensures { λ r. ⌜ r ≡ has s w ⌝ }
 {
     match w {
-        Word::LevelNode(l) => wide(l.0) < s.levels,
-        Word::LevelQueue(l) => wide(l.0) < s.levels,
+        Word::LevelNode(l) => l.index() < s.levels,
+        Word::LevelQueue(l) => l.index() < s.levels,
         Word::Head(q) => between(1, s.queues, wide(q.0)),
         Word::Tail(q) => between(1, s.queues, wide(q.0)),
         Word::Next(n) => between(1, s.nodes, wide(n.0)),

@@ -5,7 +5,7 @@ use Rattle.conditions.proofs.is_busy.Tie as tie
 
 returns : tie.Need-returns
 unfolding busy
-returns c = simp ((c .some-level .ensures), (c .before .wide .ensures))
+returns c = simp ((c .some-level .ensures), (c .before .index .ensures))
 
 pub is-busy-spec : {M : Type 1} → statement M
 is-busy-spec = tie.close

@@ -6,7 +6,7 @@ use Rattle.conditions.proofs.is_dequeued.Tie as tie
 
 returns : tie.Need-returns
 unfolding dequeued
-returns c = simp ((c .some-level .ensures), (c .before .wide .ensures), sub-zero)
+returns c = simp ((c .some-level .ensures), (c .before .index .ensures), sub-zero)
 
 pub is-dequeued-spec : {M : Type 1} → statement M
 is-dequeued-spec = tie.close

@@ -5,7 +5,7 @@ use Rattle.conditions.proofs.no_level.Tie as tie
 
 returns : tie.Need-returns
 unfolding noLevel
-returns c = simp (c .before .wide .ensures)
+returns c = simp (c .before .index .ensures)
 
 pub no-level-spec : {M : Type 1} → statement M
 no-level-spec = tie.close

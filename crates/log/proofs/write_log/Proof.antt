@@ -1,6 +1,4 @@
-use mathlib.Core.Path.{sym}
-use Rattle.text.specs.Reading.{sizesAnswer}
-use Rattle.log.specs.Laws.{log-short, log-right, log-wrong}
+use Rattle.log.specs.Laws.{log-short, log-cramped, log-laid, never-full}
 use borrow.Author.Needs.{needs}
 use Rattle.log.proofs.write_log.Statement.{statement}
 use Rattle.log.proofs.write_log.Tie as tie
@@ -9,15 +7,21 @@ returns : tie.Need-returns
 returns c = log-short _ _ _ (c .if1 .taken)
 
 returns-2 : tie.Need-returns-2
-unfolding sizesAnswer
-returns-2 c = log-right _ _ _ (c .before .before .before .before .before .before .before .before .before .before .before .if1 .left) _ _ (sym (rw (c .before .before .before .before .before .before .before .before .o .given .1) at (c .before .before .before .before .before .before .before .before .before .before .check-text .ensures))) (c .before .before .before .before .write-played .ensures)
+returns-2 c = log-cramped _ _ _ (c .before .if1 .left) (c .if2 .taken)
 
 returns-3 : tie.Need-returns-3
-unfolding sizesAnswer
-returns-3 c = log-wrong _ _ _ (c .before .before .before .before .before .before .before .before .if1 .left) _ (sym (rw (c .before .before .before .before .before .line .given .1) at (c .before .before .before .before .before .before .before .check-text .ensures))) (c .before .before .put-text-refusal .ensures)
+returns-3 c =
+    let told = rw (c .before .n .given .1) at (c .before .before .before .before .before .before .before .write-whole .ensures) in
+    log-laid _ _ _ (c .before .before .before .before .before .before .before .before .before .before .if2 .left)
+    (c .before .before .before .before .before .before .before .before .before .before .before .if1 .left) told
+
+returns-4 : tie.Need-returns-4
+returns-4 c =
+    let told = rw (c .enum-told .given .1) at (c .before .before .before .before .before .before .write-whole .ensures) in
+    absurd (never-full _ _ _ (c .before .before .before .before .before .before .before .before .before .if2 .left) told)
 
 pub write-log-spec : {M : Type 1} → statement M
 write-log-spec =
     tie.close
-    (tie.spec returns (λ c κs. search needs) (λ c. search needs) (λ c κs. search needs) (λ c. search needs) (λ c κs. search needs)
-    (λ c. search needs) (λ c. search needs) returns-2 (λ c. search needs) returns-3)
+    (tie.spec returns returns-2 (λ c κs. search needs) (λ c. search needs) (λ c. search needs) (λ c. search needs) (λ c. search needs)
+    returns-3 (λ c. search needs) (λ c. search needs) returns-4)

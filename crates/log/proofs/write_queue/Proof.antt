@@ -1,10 +1,13 @@
-use Rattle.log.specs.Laws.{listing-count, queue-listed, queue-unlisted}
+use Rattle.log.specs.Listed.{listing-count}
+use Rattle.log.specs.Laws.{queue-listed, queue-unlisted}
 use borrow.Author.Needs.{needs}
 use Rattle.log.proofs.write_queue.Statement.{statement}
 use Rattle.log.proofs.write_queue.Tie as tie
 
 put-queue-requires : tie.Need-put-queue-requires
-put-queue-requires c κs = rw (c .wide .ensures) (listing-count _ _ _ _ _ (rw (c .before .before .before .before .n .given .1) at (c .before .before .before .before .before .before .before .listing .ensures)))
+put-queue-requires c κs =
+    let told = rw (c .before .before .before .before .n .given .1) at (c .before .before .before .before .before .before .before .listing .ensures) in
+    rw (c .wide .ensures) (listing-count _ _ _ _ _ told .1)
 
 returns : tie.Need-returns
 returns c = rw (queue-listed _ _ _ _ (rw (c .before .before .before .before .before .before .before .n .given .1) at (c .before .before .before .before .before .before .before .before .before .before .listing .ensures))) (rw (c .before .before .before .wide .ensures) at (c .before .before .put-queue .ensures))

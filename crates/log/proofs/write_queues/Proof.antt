@@ -1,8 +1,7 @@
 use Prim.Native.Nat.{_+_, _-_, _≤_}
 use mathlib.Core.Path.{_≡_, refl, _∙_}
 use lib.ListN.{length}
-use Rattle.loglines.specs.Written.{logSays}
-use Rattle.loglines.specs.Pen.{ink}
+use Rattle.loglines.specs.Ink.{ink}
 use Rattle.log.specs.Log.{queuesOf}
 use Rattle.log.specs.Laws.{queues-start, queues-more, queues-none}
 use borrow.Author.Needs.{needs}
@@ -12,7 +11,7 @@ use Rattle.log.proofs.write_queues.Tie as tie
 abbrev Inv-loop : tie.InvT-loop
 Inv-loop table room₀ queues next₀ i₀ room next i =
     (i ≤ queues) × (length room ≡ length room₀)
-    × (ink (logSays next₀, room₀) (queuesOf table 1 queues) ≡ ink (logSays next, room) (queuesOf table (i + 1) (queues - i)))
+    × (ink (next₀, room₀) (queuesOf table 1 queues) ≡ ink (next, room) (queuesOf table (i + 1) (queues - i)))
 
 abbrev μ-loop : tie.MeasureT-loop
 μ-loop table room₀ queues next₀ i₀ room next i = queues - i

@@ -1,8 +1,7 @@
 use Prim.Native.Nat.{_-_, _≤_}
 use mathlib.Core.Path.{_≡_, refl, _∙_}
 use lib.ListN.{length, drop}
-use Rattle.loglines.specs.Written.{logSays}
-use Rattle.loglines.specs.Pen.{ink}
+use Rattle.loglines.specs.Ink.{ink}
 use Rattle.loglines.specs.Laws.{ink-more, ink-none}
 use borrow.Author.Needs.{needs}
 use Rattle.loglines.proofs.put.Statement.{statement}
@@ -10,7 +9,7 @@ use Rattle.loglines.proofs.put.Tie as tie
 
 abbrev Inv-loop : tie.InvT-loop
 Inv-loop room₀ bytes next₀ i₀ room next i =
-    (i ≤ length bytes) × (length room ≡ length room₀) × (ink (logSays next₀, room₀) bytes ≡ ink (logSays next, room) (drop i bytes))
+    (i ≤ length bytes) × (length room ≡ length room₀) × (ink (next₀, room₀) bytes ≡ ink (next, room) (drop i bytes))
 
 abbrev μ-loop : tie.MeasureT-loop
 μ-loop room₀ bytes next₀ i₀ room next i = length bytes - i

@@ -2,8 +2,7 @@ use Prim.Native.Nat.{_-_, _≤_}
 use mathlib.Core.Path.{_≡_, refl, _∙_}
 use lib.ListN.{length, take, drop}
 use Rattle.loglines.specs.Lines.{nodesText}
-use Rattle.loglines.specs.Written.{logSays}
-use Rattle.loglines.specs.Pen.{ink}
+use Rattle.loglines.specs.Ink.{ink}
 use Rattle.loglines.specs.Laws.{nodes-more, nodes-none}
 use borrow.Author.Needs.{needs}
 use Rattle.loglines.proofs.put_nodes.Statement.{statement}
@@ -12,7 +11,7 @@ use Rattle.loglines.proofs.put_nodes.Tie as tie
 abbrev Inv-loop : tie.InvT-loop
 Inv-loop room₀ nodes n next₀ i₀ room next i =
     (i ≤ n) × (length room ≡ length room₀)
-    × (ink (logSays next₀, room₀) (nodesText (take n nodes)) ≡ ink (logSays next, room) (nodesText (drop i (take n nodes))))
+    × (ink (next₀, room₀) (nodesText (take n nodes)) ≡ ink (next, room) (nodesText (drop i (take n nodes))))
 
 abbrev μ-loop : tie.MeasureT-loop
 μ-loop room₀ nodes n next₀ i₀ room next i = n - i

@@ -1,7 +1,6 @@
 use mathlib.Core.Path.{_≡_, refl, _∙_}
 use native.Mathlib.Omega.{arith}
 use lib.ListN.{length}
-use Rattle.loglines.specs.Written.{logSays}
 use Rattle.play.specs.Play.{stepsOf}
 use Rattle.play.specs.Parts.{into}
 use Rattle.play.specs.Steps.{ranPlayed, ran-counts}
@@ -13,7 +12,7 @@ use Rattle.play.proofs.play_steps.Tie as tie
 abbrev Inv-loop : tie.InvT-loop
 Inv-loop table₀ room₀ count next₀ left₀ table room next left =
     (length table ≡ length table₀) × (length room ≡ length room₀)
-    × (into (logSays next₀, room₀) (stepsOf count table₀) ≡ into (logSays next, room) (stepsOf left table))
+    × (into (next₀, room₀) (stepsOf count table₀) ≡ into (next, room) (stepsOf left table))
 
 abbrev μ-loop : tie.MeasureT-loop
 μ-loop table₀ room₀ count next₀ left₀ table room next left = left

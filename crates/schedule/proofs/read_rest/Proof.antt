@@ -18,11 +18,11 @@ loop-holds c = refl
 
 loop-again : tie.Need-loop-again Inv-loop μ-loop
 unfolding eventAnswer
-loop-again c = sym (rest-more (c .before .before .before .before .before .loop .left) ((c .before .before .before .before .before .before .before .args .text) .now) (c .before .before .before .before .before .loop .at) (c .before .before .before .before .loop-test .taken) ∙ simp (sym (c .before .before .before .read-event .ensures) ∙ ap eventAnswer ((c .before .next .given) .1))) ∙ (c .before .before .before .before .before .loop .inv)
+loop-again c = sym (rest-more (c .before .before .before .before .before .loop .left) ((c .before .before .before .before .before .before .before .args .text) .now) (c .before .before .before .before .before .loop .at) (c .before .before .before .before .loop-test .taken) ∙ simp (sym (c .before .before .before .event-at .ensures) ∙ ap eventAnswer ((c .before .next .given) .1))) ∙ (c .before .before .before .before .before .loop .inv)
 
 returns : tie.Need-returns Inv-loop μ-loop
 unfolding eventAnswer endAnswer
-returns c = sym (rest-more (c .before .before .before .before .before .loop .left) ((c .before .before .before .before .before .before .before .args .text) .now) (c .before .before .before .before .before .loop .at) (c .before .before .before .before .loop-test .taken) ∙ simp (sym (c .before .before .before .read-event .ensures) ∙ ap eventAnswer ((c .before .line .given) .1))) ∙ (c .before .before .before .before .before .loop .inv)
+returns c = sym (rest-more (c .before .before .before .before .before .loop .left) ((c .before .before .before .before .before .before .before .args .text) .now) (c .before .before .before .before .before .loop .at) (c .before .before .before .before .loop-test .taken) ∙ simp (sym (c .before .before .before .event-at .ensures) ∙ ap eventAnswer ((c .before .line .given) .1))) ∙ (c .before .before .before .before .before .loop .inv)
 
 returns-2 : tie.Need-returns-2 Inv-loop μ-loop
 returns-2 c = (c .read-end .ensures) ∙ sym (rest-none (c .before .before .loop .left) ((c .before .before .before .before .args .text) .now) (c .before .before .loop .at) (c .before .loop-test .left)) ∙ (c .before .before .loop .inv)

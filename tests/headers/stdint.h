@@ -1,0 +1,3 @@
+/* A stand-in: see stddef.h. */
+typedef unsigned short uint16_t;
+typedef unsigned int uint32_t;
