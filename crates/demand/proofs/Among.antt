@@ -147,7 +147,7 @@ module _ (B : Begun) where
         owned : (n : ℕ) → ownedIn y n + cnt n (ret (q .0)) ≡ ownedIn x n + cnt n (han (q .0)) → ownedIn y n ≡ ownedIn t n
         owned n e = omega (arith, rw (none-out, none-in) at e, r .owned n)
 
-    -- its frame was put at a level that was not on q and is not
+    -- and that put a frame at level i, which was on another queue or none and is so again
     pub elsewhere : (i : ℕ) (g : Frame) → frames s y ≡ put (frames s x) i g → ¬ OnIt x i → ¬ On (q .0) g
         → (es : List End) → Stage x fronts es → Stage y (k .fronts′) es
     elsewhere i g put-in off-before off-then es st = by st
