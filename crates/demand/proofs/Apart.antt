@@ -10,13 +10,12 @@ use Rattle.words.specs.declared.Sizes.{Sizes}
 use Rattle.words.specs.declared.Frame.{Frame}
 use Rattle.words.specs.declared.Word.{Word}
 use Rattle.words.specs.declared.Word.the-variants.{LevelNode, LevelQueue, Head, Tail, Next, Use}
-use Rattle.words.specs.declared.Queue.{Queue}
 use Rattle.words.specs.Layout.{level, node}
 use Rattle.table.specs.Table.{Row}
 use Rattle.lists.specs.Count.{Same, same, apart, same?, hit}
 use Rattle.state.specs.Mem.{Mem, put, put-same, put-other, upd}
 use Rattle.state.specs.Step.{State, memAfter, rowOf, stepped}
-use Rattle.demand.proofs.Rows.{nextFrame, next-frame}
+use Rattle.demand.proofs.Rows.{nextFrame, next-on}
 use Rattle.state.specs.Queues.{On, own, Mine, Within, load, store, free, Alike, still, others, Apart}
 
 -- ---- nodes
@@ -156,15 +155,9 @@ module _ (s : Sizes) (q r : ℕ) (S : State) (some : 1 ≤ q) (ne : q ≢ r) (re
   -- a step of a frame on the other queue
   pub apart-step : (levels l : ℕ) → On r (S .frames l) → Within s r S (rowOf levels l (S .frames l)) → Apart s q S (stepped levels l S)
   apart-step levels l h w =
-      apart-put (memAfter (S .mem) (rowOf levels l (S .frames l))) l g (kept-row (rowOf levels l (S .frames l)) w) (not-on (S .frames l) h)
-      (by (next-frame (S .mem) levels l (S .frames l)))
-    where
-      g : Frame
-      g = nextFrame (S .mem) levels l (S .frames l)
-
-      by : (g .op ≡ 0) ⊎ ((g .op ≡ S .frames l .op) × (g .queue ≡ S .frames l .queue)) → ¬ On q g
-      by (inl e) k = k .0 e
-      by (inr e) k = ne (sym (k .1) ∙ ap (λ (u : Queue). u .0) (e .1) ∙ h .1)
+      apart-put (memAfter (S .mem) (rowOf levels l (S .frames l))) l (nextFrame (S .mem) levels l (S .frames l))
+      (kept-row (rowOf levels l (S .frames l)) w) (not-on (S .frames l) h)
+      (λ k. not-on (S .frames l) h (next-on q (S .mem) levels l (S .frames l) k))
 
   -- a begin on the other queue: a dequeue, and an enqueue with its node's use
   pub apart-dequeue : (l : ℕ) (g : Frame) → ¬ On q (S .frames l) → On r g → Apart s q S (record { mem = S .mem; frames = put (S .frames) l g })

@@ -80,6 +80,7 @@ pub record CanEnqueue (s : Sizes) (t : List ℕ) (l : Level) (q : Queue) (n : No
   pub idle : IdleFrom (l .0) (stateOf s t)
   pub unused : rd s t (Use n) ≡ 0
   pub table : u ≡ wr s (putFrame s t l (begun 1 E1 q n)) (Use n) (q .0)
+  pub frames-are : frames s u ≡ put (frames s t) (l .0) (begun 1 E1 q n)
 
 pub record CanDequeue (s : Sizes) (t : List ℕ) (l : Level) (q : Queue) (u : List ℕ) : Type 0 where
   pub low : l .0 < s .levels
@@ -88,6 +89,7 @@ pub record CanDequeue (s : Sizes) (t : List ℕ) (l : Level) (q : Queue) (u : Li
   pub idle : IdleFrom (l .0) (stateOf s t)
   pub only : (j : ℕ) → frames s t j .op ≡ 2 → frames s t j .queue .0 ≢ q .0
   pub table : u ≡ putFrame s t l (begun 2 D1 q (node 0))
+  pub frames-are : frames s u ≡ put (frames s t) (l .0) (begun 2 D1 q (node 0))
 
 module _ (s : Sizes) (t : List ℕ) (m : measured t ≡ Sized s) (l : Level) where
   not-busy : busy s t l ≡ false → l .0 < s .levels → IdleFrom (l .0) (stateOf s t)
@@ -114,15 +116,23 @@ module _ (s : Sizes) (t : List ℕ) (m : measured t ≡ Sized s) (l : Level) whe
       let c = enqueues s t l q n (a .0) in
       let b = bound s (Head q) (c .has-q) in
       let user = not-false (within (s .queues + 1) (s .nodes) (n .0)) (c .is-user) in
+      let above = within-low (s .queues + 1) (s .nodes) (n .0) user in
+      let real = within-high (s .queues + 1) (s .nodes) (n .0) user in
+      let here = has-is s (Use n) (omega (arith, above, real)) in
+      let g = begun 1 E1 q n in
+      let room = measured-fits (putFrame s t l g) s (measured-put s t l g m) .room in
       record {
         low = c .has-l;
         some-queue = b .0;
         queue-known = b .1;
-        user = omega (arith, within-low (s .queues + 1) (s .nodes) (n .0) user);
-        node-known = within-high (s .queues + 1) (s .nodes) (n .0) user;
+        user = omega (arith, above);
+        node-known = real;
         idle = not-busy (c .idle) (c .has-l);
         unused = eqb-true (rd s t (Use n)) 0 (not-false (eqb (rd s t (Use n)) 0) (c .free));
         table = sym (a .1);
+        frames-are =
+            rw (← (a .1))
+            (frames-wr s (putFrame s t l g) room (Use n) here (q .0) ∙ frames-put s t (measured-fits t s m .room) l (c .has-l) g);
       }
 
   pub can-dequeue : (q : Queue) (u : List ℕ) → dequeueOf t l q ≡ (says tt, u) → CanDequeue s t l q u
@@ -138,6 +148,7 @@ module _ (s : Sizes) (t : List ℕ) (m : measured t ≡ Sized s) (l : Level) whe
         idle = not-busy (c .idle) (c .has-l);
         only = not-dequeued q (c .alone) (c .has-l) (not-busy (c .idle) (c .has-l));
         table = sym (a .1);
+        frames-are = rw (← (a .1)) (frames-put s t (measured-fits t s m .room) l (c .has-l) (begun 2 D1 q (node 0)));
       }
 
 -- ---- what it keeps
@@ -196,8 +207,8 @@ module _ (s : Sizes) (t : List ℕ) (fronts : ℕ → List ℕ) (m : measured t 
 
       state : stateOf s (wr s v (Use n) (q .0)) ≡ enqueueBegun (stateOf s t) (l .0) (q .0) (n .0)
       state =
-          let fr = frames-wr s v (measured-fits v s mv .room) (Use n) here (q .0) ∙ frames-put s t (measured-fits t s m .room) l (c .low) g in
-          λ i. record { mem = mem i; frames = fr i }
+          let frames-are = rw (c .table) at (c .frames-are) in
+          λ i. record { mem = mem i; frames = frames-are i }
 
       unused : memory s t .uses (n .0) ≡ 0
       unused = look-rd s t (Use n) here ∙ c .unused

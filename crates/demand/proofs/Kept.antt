@@ -36,7 +36,7 @@ module _ (s : Sizes) where
     where
       by : Outcome s t fronts → Keeps s t fronts (λ q. returnedByStep q x) (λ q. []) u
       by (idle k i) = absurd (no-answer (sym k ∙ sym (step-of s t m) ∙ h))
-      by (took y v k r) = let z = same-said (sym k ∙ sym (step-of s t m) ∙ h) in rw (z .0, z .1) at r
+      by (took l y a) = let z = same-said (sym (a .is) ∙ sym (step-of s t m) ∙ h) in rw (z .0, z .1) at (a .keeps)
   accepted-kept t u e fronts m w (run {budget = budget} {x = x} h) =
       let r = run-kept s budget 0 t fronts m w in
       let z = same-said (sym (r .is) ∙ sym (run-of s budget t m) ∙ h) in
@@ -59,7 +59,7 @@ module _ (s : Sizes) where
       where
         by : Outcome s t fronts → stepSized s t .0 ≢ refused 10
         by (idle e h) = rw e (λ z. other-number z (omega arith))
-        by (took x u e k) = rw e (λ z. (let y : _≡_ {A = ℕ} 0 1 = cc in omega arith))
+        by (took l x a) = rw (a .is) (λ z. (let y : _≡_ {A = ℕ} 0 1 = cc in omega arith))
 
     pub run-unharmed : (budget n : ℕ) → runOf budget t .0 ≢ says (after n refusal-10)
     run-unharmed budget n =

@@ -12,4 +12,6 @@ pub mod Quiet
 pub mod Fresh
 pub mod Moments
 pub mod Dequeue
+pub mod Among
+pub mod Since
 pub mod Theorems

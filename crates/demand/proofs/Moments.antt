@@ -1,9 +1,9 @@
 -- A quiet moment: what the invariant of a quiet queue says of the words.
-use Prim.Native.Nat.{ℕ, _≤_, _<_}
+use Prim.Native.Nat.{ℕ, zero, suc, _+_, _≤_, _<_}
 use mathlib.Core.Path.{_≡_, refl, sym, ap, _∙_}
 use mathlib.Core.Logic.{_≢_}
-use mathlib.Core.Bool.{Bool, true, false, cond, not}
-use mathlib.Core.Option.{some}
+use mathlib.Core.Bool.{Bool, true, false, cond, not, _&&_}
+use mathlib.Core.Option as option
 use mathlib.Core.List.{List, [], _∷_, _++_}
 use native.Mathlib.Omega.{arith}
 use lib.Dec.{ltb, eqb}
@@ -17,11 +17,12 @@ use Rattle.words.specs.declared.Word.the-variants.{Head, Tail}
 use Rattle.words.specs.Layout.{level, within, measured, rd, frameOf}
 use Rattle.words.specs.Laws.{Bound, within-low, within-high, within-is, has-is}
 use Rattle.answers.specs.Said.{Said, refused, says}
+use Rattle.conditions.specs.declared.Sought.{Sought}
 use Rattle.conditions.specs.declared.Sought.the-variants.{RunningOn}
-use Rattle.conditions.specs.Conditions.{sought, noQueue, unquiet}
+use Rattle.conditions.specs.Conditions.{sought, some, noQueue, unquiet}
 use Rattle.asks.specs.Quiet.{quietMeasured, quietOf}
 use Rattle.asks.specs.Listing.{nodesFrom, nodesOf, listed, listingSized, listingMeasured, listingOf}
-use Rattle.lists.specs.Count.{cnt, cnt-nil, cnt-self}
+use Rattle.lists.specs.Count.{Same, same, apart, same?, cnt, cnt-nil, cnt-self}
 use Rattle.lists.specs.Beginning.{without, cnt-without}
 use Rattle.chains.specs.Seg.{Seg, stop, link}
 use Rattle.state.specs.View.{memory, frames, stateOf}
@@ -43,7 +44,6 @@ use Rattle.demand.specs.Demand.{QuietAt, firstOf}
 pub record Nobody (s : Sizes) (t : List ℕ) (q : Queue) : Type 0 where
   pub some-queue : 1 ≤ q .0
   pub queue-known : q .0 ≤ s .queues
-  pub unwatched : unquiet s t q ≡ false
   pub nobody : (j : ℕ) → ¬ On (q .0) (frames s t j)
 
 not-on : (q : Queue) (f : Frame) → sought (RunningOn q) f ≡ false → ¬ On (q .0) f
@@ -56,7 +56,6 @@ nobody-on s t q w u =
     record {
       some-queue = within-low 1 (s .queues) (q .0) w;
       queue-known = within-high 1 (s .queues) (q .0) w;
-      unwatched = u;
       nobody = λ j on. at j on (ltb j (s .levels)) refl;
     }
   where
@@ -66,15 +65,43 @@ nobody-on s t q w u =
         not-on q (frameOf s t (level j)) (none-of s t (RunningOn q) 0 (s .levels) u j (omega arith) (omega arith)) (rw (frame-is s t j low) at on)
     at j on false e = let past = ltb-false j (s .levels) e in on .0 (frame-idle s t j (λ low. absurd (omega arith)))
 
-pub quietly : (s : Sizes) (t : List ℕ) (q : Queue) → measured t ≡ Sized s → QuietAt t q → Nobody s t q
+-- the two tests of the quiet call
+tested : (s : Sizes) (t : List ℕ) (q : Queue) → measured t ≡ Sized s → QuietAt t q
+    → (within 1 (s .queues) (q .0) ≡ true) × (unquiet s t q ≡ false)
 unfolding quietOf quietMeasured noQueue
-quietly s t q m h = by (within 1 (s .queues) (q .0)) refl (unquiet s t q) refl (rw m at h)
+tested s t q m h = by (within 1 (s .queues) (q .0)) (unquiet s t q) (rw m at h)
   where
-    by : (a : Bool) → within 1 (s .queues) (q .0) ≡ a → (b : Bool) → unquiet s t q ≡ b
-        → _≡_ {A = Said Bool} (cond (not a) (refused 4) (says (not b))) (says true) → Nobody s t q
-    by true w false u e = nobody-on s t q w u
-    by true w true u e = let z : _≡_ {A = ℕ} 0 1 = cc in absurd (omega arith)
-    by false w b u e = let z : _≡_ {A = ℕ} 0 1 = cc in absurd (omega arith)
+    by : (a b : Bool) → _≡_ {A = Said Bool} (cond (not a) (refused 4) (says (not b))) (says true) → (a ≡ true) × (b ≡ false)
+    by true false e = (refl, refl)
+    by true true e = let z : _≡_ {A = ℕ} 0 1 = cc in absurd (omega arith)
+    by false b e = let z : _≡_ {A = ℕ} 0 1 = cc in absurd (omega arith)
+
+pub quietly : (s : Sizes) (t : List ℕ) (q : Queue) → measured t ≡ Sized s → QuietAt t q → Nobody s t q
+quietly s t q m h = let b = tested s t q m h in nobody-on s t q (b .0) (b .1)
+
+-- where nobody is on the queue, the quiet call says so
+not-sought : (q : Queue) (f : Frame) → ¬ On (q .0) f → sought (RunningOn q) f ≡ false
+unfolding sought
+not-sought q f h = by (eqb (f .op) 0) (same? (f .op) 0) (eqb (f .queue .0) (q .0)) (same? (f .queue .0) (q .0))
+  where
+    by : (a : Bool) → Same (f .op) 0 a → (b : Bool) → Same (f .queue .0) (q .0) b → not a && b ≡ false
+    by true (same e) b k = refl
+    by false (apart e) true (same k) = absurd (h (e, k))
+    by false (apart e) false (apart k) = refl
+
+none-sought : (s : Sizes) (t : List ℕ) (w : Sought) (i n : ℕ) → ((j : ℕ) → j < i + n → sought w (frameOf s t (level j)) ≡ false)
+    → some s t w i n ≡ false
+unfolding some
+none-sought s t w i zero h = refl
+none-sought s t w i (suc n) h = rw (h i (omega arith), none-sought s t w (i + 1) n (λ j k. h j (omega arith)))
+
+pub quiet-then : (s : Sizes) (t : List ℕ) (q : Queue) → measured t ≡ Sized s → Nobody s t q → QuietAt t q
+unfolding quietOf quietMeasured noQueue unquiet
+quiet-then s t q m nb =
+    rw (m, within-is 1 (s .queues) (q .0) (nb .some-queue) (nb .queue-known), none-sought s t (RunningOn q) 0 (s .levels) off)
+  where
+    off : (j : ℕ) → j < 0 + s .levels → sought (RunningOn q) (frameOf s t (level j)) ≡ false
+    off j low = not-sought q (frameOf s t (level j)) (rw (frame-is s t j (omega arith)) at (nb .nobody j))
 
 -- ---- the nodes of a queue
 
@@ -159,7 +186,7 @@ module _ (s : Sizes) (t : List ℕ) (fronts : ℕ → List ℕ) (m : measured t 
       (sound .registered j e)
 
   -- the listing call
-  nodes-are : nodesOf s t q ≡ some (stillIn s t q)
+  nodes-are : nodesOf s t q ≡ option.some (stillIn s t q)
   unfolding nodesFrom
   nodes-are =
       let held = c .once (q .0) ∙ own-sentinel (s .queues) (memory s t .uses) (q .0) (quiet .queue-known) in
@@ -171,17 +198,12 @@ module _ (s : Sizes) (t : List ℕ) (fronts : ℕ → List ℕ) (m : measured t 
         still-nodes,
       )
 
-  pub listing-is : (room : List ℕ) → length (stillIn s t q) ≤ length room
+  pub listing-is : QuietAt t q → (room : List ℕ) → length (stillIn s t q) ≤ length room
       → listingOf t q room ≡ (says (length (stillIn s t q)), stillIn s t q ++ drop (length (stillIn s t q)) room)
   unfolding listingOf listingMeasured listingSized listed noQueue
-  listing-is room h =
-      rw (
-        m,
-        within-is 1 (s .queues) (q .0) (quiet .some-queue) (quiet .queue-known),
-        quiet .unwatched,
-        nodes-are,
-        le-ltb (length room) (length (stillIn s t q)) h,
-      )
+  listing-is still room h =
+      let b = tested s t q m still in
+      rw (m, b .0, b .1, nodes-are, le-ltb (length room) (length (stillIn s t q)) h)
 
   nodes-listed : (room : List ℕ) → listed (nodesOf s t q) room .0 ≢ refused 10
   unfolding listed

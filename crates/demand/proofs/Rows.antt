@@ -8,7 +8,9 @@ use native.Mathlib.Omega.{arith}
 use mathlib.Core.Bool.{Bool, true, false, cond}
 use lib.Dec.{eqb}
 use Rattle.words.specs.declared.Level.{Level}
+use Rattle.words.specs.declared.Queue.{Queue}
 use Rattle.words.specs.declared.Node.{Node}
+use Rattle.words.specs.declared.Sizes.{Sizes}
 use Rattle.words.specs.declared.Frame.{Frame}
 use Rattle.words.specs.declared.Word.{Word}
 use Rattle.table.specs.declared.After.{After}
@@ -20,48 +22,51 @@ use Rattle.table.specs.Laws.{point-is, if-other}
 use Rattle.table.specs.Frames.{at, counted, ifEq, belowKTo, belowMTo, walkTo}
 use Rattle.table.specs.Table.{Row, loads, stores, frees, nothing, row}
 use Rattle.state.specs.Mem.{Mem, look}
-use Rattle.state.specs.Step.{then, frameAfter, rowOf}
+use Rattle.state.specs.Step.{State, memAfter, then, frameAfter, rowOf}
+use Rattle.state.specs.Queues.{On, Within}
+use Rattle.state.specs.Queues as within
 use Rattle.lists.specs.Count.{Same, same, apart, same?}
 
--- what follows, for a frame f
-pub data Plain (f : Frame) : After → Type 0 where
-  goes : {g : Frame} → g .op ≡ f .op → g .queue ≡ f .queue → Plain f (Go g)
-  empty : {n : Node} → n .0 ≡ 0 → Plain f (Done n)
-  handed : {n : Node} → f .op ≡ 1 → n ≡ f .node → Plain f (Done n)
+-- what follows at the point p, for a frame f
+pub data Plain (p : Point) (f : Frame) : After → Type 0 where
+  goes : {g : Frame} → g .op ≡ f .op → g .queue ≡ f .queue → Plain p f (Go g)
+  empty : {n : Node} → (p ≡ point.D2) ⊎ (p ≡ point.D3) → n .0 ≡ 0 → Plain p f (Done n)
+  handed : {n : Node} → f .op ≡ 1 → n ≡ f .node → Plain p f (Done n)
 
 -- a row of the point p
 pub data Plainly (p : Point) (f : Frame) : Row → Type 0 where
-  load : {w : Word} {after : ℕ → After} → ((x : ℕ) → Plain f (after x)) → Plainly p f (loads w after)
-  store : {w : Word} {v : ℕ} {after : After} → Plain f after → Plainly p f (stores w v after)
+  load : {w : Word} {after : ℕ → After} → ((x : ℕ) → Plain p f (after x)) → Plainly p f (loads w after)
+  store : {w : Word} {v : ℕ} {after : After} → Plain p f after → Plainly p f (stores w v after)
   free : {n : Node} → p ≡ point.D7 → n ≡ f .c → Plainly p f (frees n (Done n))
   none : Plainly p f nothing
 
 -- a branch, by what it tests
-by-eq : {f : Frame} {a b : ℕ} {x y : After} → (a ≡ b → Plain f x) → Plain f y → Plain f (ifEq a b x y)
+by-eq : {p : Point} {f : Frame} {a b : ℕ} {x y : After} → (a ≡ b → Plain p f x) → Plain p f y → Plain p f (ifEq a b x y)
 unfolding ifEq
-by-eq {f} {a} {b} {x} {y} h k = by (eqb a b) (same? a b)
+by-eq {p} {f} {a} {b} {x} {y} h k = by (eqb a b) (same? a b)
   where
-    by : (t : Bool) → Same a b t → Plain f (cond t x y)
+    by : (t : Bool) → Same a b t → Plain p f (cond t x y)
     by true (same e) = h e
     by false (apart e) = k
 
 -- the branches of the step table over a frame g that has f's op and queue
-below-k : {f : Frame} (g : Frame) → g .op ≡ f .op → g .queue ≡ f .queue → (x y : ℕ) → Plain f (belowKTo x y g)
+below-k : {p : Point} {f : Frame} (g : Frame) → g .op ≡ f .op → g .queue ≡ f .queue → (x y : ℕ) → Plain p f (belowKTo x y g)
 unfolding belowKTo
 below-k g o q x y = by-eq (λ e. goes o q) (goes o q)
 
-below-m : {f : Frame} (g : Frame) → g .op ≡ f .op → g .queue ≡ f .queue → (x y : ℕ) → Plain f (belowMTo x y g)
+below-m : {p : Point} {f : Frame} (g : Frame) → g .op ≡ f .op → g .queue ≡ f .queue → (x y : ℕ) → Plain p f (belowMTo x y g)
 unfolding belowMTo
 below-m g o q x y = by-eq (λ e. goes o q) (goes o q)
 
-walk-on : {f : Frame} (x v : ℕ) → Plain f (walkTo x v f)
+walk-on : {p : Point} {f : Frame} (x v : ℕ) → Plain p f (walkTo x v f)
 unfolding walkTo
 walk-on x v = by-eq (λ e. goes refl refl) (goes refl refl)
 
-by : (f : Frame) (a : After) → Plain f a → (frameAfter a .op ≡ 0) ⊎ ((frameAfter a .op ≡ f .op) × (frameAfter a .queue ≡ f .queue))
-by f a (goes o q) = inr (o, q)
-by f a (empty e) = inl refl
-by f a (handed o e) = inl refl
+by : (p : Point) (f : Frame) (a : After) → Plain p f a
+    → (frameAfter a .op ≡ 0) ⊎ ((frameAfter a .op ≡ f .op) × (frameAfter a .queue ≡ f .queue))
+by p f a (goes o q) = inr (o, q)
+by p f a (empty d e) = inl refl
+by p f a (handed o e) = inl refl
 
 pub row-plain : (p : Point) (f : Frame) (l top : Level) → Plainly p f (row p f l top)
 unfolding row
@@ -98,8 +103,8 @@ row-plain point.E27 f l top = store (goes refl refl)
 row-plain point.E28 f l top = store (goes refl refl)
 row-plain point.E29 f l top = store (by-eq (λ e. handed e refl) (goes refl refl))
 row-plain point.D1 f l top = load (λ x. goes refl refl)
-row-plain point.D2 f l top = load (λ x. by-eq (λ e. empty refl) (goes refl refl))
-row-plain point.D3 f l top = load (λ x. by-eq (λ e. empty refl) (goes refl refl))
+row-plain point.D2 f l top = load (λ x. by-eq (λ e. empty (inl refl) refl) (goes refl refl))
+row-plain point.D3 f l top = load (λ x. by-eq (λ e. empty (inr refl) refl) (goes refl refl))
 row-plain point.D4 f l top = load (λ x. goes refl refl)
 row-plain point.D5 f l top = store (by-eq (λ e. goes refl refl) (goes refl refl))
 row-plain point.D6 f l top = store (goes refl refl)
@@ -111,8 +116,8 @@ row-plain Unknown f l top = none
 -- the frame as it becomes has its queue still, or is none
 frame-after : (M : Mem) (p : Point) (f : Frame) (x : Row) → Plainly p f x
     → (frameAfter (then M x f) .op ≡ 0) ⊎ ((frameAfter (then M x f) .op ≡ f .op) × (frameAfter (then M x f) .queue ≡ f .queue))
-frame-after M p f x (load {w = w} h) = by f _ (h (look M w))
-frame-after M p f x (store h) = by f _ h
+frame-after M p f x (load {w = w} h) = by p f _ (h (look M w))
+frame-after M p f x (store h) = by p f _ h
 frame-after M p f x (free d e) = inl refl
 frame-after M p f x none = inr (refl, refl)
 
@@ -126,11 +131,22 @@ unfolding counted
 next-frame M levels l f =
     frame-after M (pointOf (counted f .point)) (counted f) (rowOf levels l f) (row-plain (pointOf (counted f .point)) (counted f) (level l) (level levels))
 
+-- a step puts no frame on a queue
+pub next-on : (q : ℕ) (M : Mem) (levels l : ℕ) (f : Frame) → On q (nextFrame M levels l f) → On q f
+next-on q M levels l f o = by (next-frame M levels l f)
+  where
+    g : Frame
+    g = nextFrame M levels l f
+
+    by : (g .op ≡ 0) ⊎ ((g .op ≡ f .op) × (g .queue ≡ f .queue)) → On q f
+    by (inl e) = absurd (o .0 e)
+    by (inr e) = ((λ z. o .0 (e .0 ∙ z)), sym (ap (λ (u : Queue). u .0) (e .1)) ∙ o .1)
+
 -- a frame that goes on has its op and queue still
-plain-go : (f g : Frame) (a : After) → Plain f a → a ≡ Go g → (g .op ≡ f .op) × (g .queue ≡ f .queue)
-plain-go f g a (goes {g = h} o q) e = let z : h ≡ g = cc in (rw (← z) o, rw (← z) q)
-plain-go f g a (empty n) e = let z : _≡_ {A = ℕ} 0 1 = cc in absurd (omega arith)
-plain-go f g a (handed o n) e = let z : _≡_ {A = ℕ} 0 1 = cc in absurd (omega arith)
+plain-go : (p : Point) (f g : Frame) (a : After) → Plain p f a → a ≡ Go g → (g .op ≡ f .op) × (g .queue ≡ f .queue)
+plain-go p f g a (goes {g = h} o q) e = let z : h ≡ g = cc in (rw (← z) o, rw (← z) q)
+plain-go p f g a (empty d n) e = let z : _≡_ {A = ℕ} 0 1 = cc in absurd (omega arith)
+plain-go p f g a (handed o n) e = let z : _≡_ {A = ℕ} 0 1 = cc in absurd (omega arith)
 
 pub goes-on : (M : Mem) (levels l : ℕ) (f g : Frame) → then M (rowOf levels l f) (counted f) ≡ Go g → (g .op ≡ f .op) × (g .queue ≡ f .queue)
 unfolding counted
@@ -138,10 +154,10 @@ goes-on M levels l f g e =
     by (rowOf levels l f) (row-plain (pointOf (counted f .point)) (counted f) (level l) (level levels)) e
   where
     by : (x : Row) → Plainly (pointOf (counted f .point)) (counted f) x → then M x (counted f) ≡ Go g → (g .op ≡ f .op) × (g .queue ≡ f .queue)
-    by x (load {w = w} h) e = plain-go (counted f) g _ (h (look M w)) e
-    by x (store h) e = plain-go (counted f) g _ h e
+    by x (load {w = w} h) e = plain-go (pointOf (counted f .point)) (counted f) g _ (h (look M w)) e
+    by x (store h) e = plain-go (pointOf (counted f .point)) (counted f) g _ h e
     by x (free d c) e = let z : _≡_ {A = ℕ} 0 1 = cc in absurd (omega arith)
-    by x none e = plain-go (counted f) g _ (goes refl refl) e
+    by x none e = plain-go (pointOf (counted f .point)) (counted f) g _ (goes refl refl) e
 
 -- ---- the point of a number
 
@@ -158,6 +174,10 @@ pub number-D7 : (n : ℕ) → pointOf n ≡ point.D7 → n ≡ 37
 unfolding pointOf
 number-D7 n e = in-number points n point.D7 e (λ z. (let w : _≡_ {A = ℕ} 0 1 = cc in omega arith))
 
+number-D3 : (n : ℕ) → pointOf n ≡ point.D3 → n ≡ numberOf point.D3
+unfolding pointOf
+number-D3 n e = in-number points n point.D3 e (λ z. (let w : _≡_ {A = ℕ} 0 1 = cc in omega arith))
+
 -- D3 goes on where the node has a next
 pub d3-goes : (M : Mem) (levels l : ℕ) (f : Frame) → f .point ≡ numberOf point.D3 → M .next (f .c .0) ≢ 0
     → then M (rowOf levels l f) (counted f) ≡ Go (at (numberOf point.D4) (counted f))
@@ -165,3 +185,52 @@ unfolding row counted
 d3-goes M levels l f p h =
     ap (λ (x : Point). then M (row x (counted f) (level l) (level levels)) (counted f)) (point-is point.D3 (f .point) p)
     ∙ if-other (M .next (f .c .0)) 0 _ _ h
+
+-- ---- an empty end
+
+-- a dequeue ends empty at D2 and D3 alone
+plain-empty : (p : Point) (f : Frame) (a : After) (n : Node) → Plain p f a → a ≡ Done n → f .op ≡ 2 → (p ≡ point.D2) ⊎ (p ≡ point.D3)
+plain-empty p f a n (goes o q) e two = let z : _≡_ {A = ℕ} 0 1 = cc in absurd (omega arith)
+plain-empty p f a n (empty d z) e two = d
+plain-empty p f a n (handed o z) e two = absurd (omega arith)
+
+empty-at : (s : Sizes) (q : ℕ) (S : State) (M : Mem) (p : Point) (f : Frame) (x : Row) (n : Node) → Within s q S x → Plainly p f x
+    → then M x f ≡ Done n → n .0 ≡ 0 → f .op ≡ 2 → (p ≡ point.D2) ⊎ (p ≡ point.D3)
+empty-at s q S M p f x n (within.load b) (load {w = w} h) e z two = plain-empty p f _ n (h (look M w)) e two
+empty-at s q S M p f x n (within.store b m) (store h) e z two = plain-empty p f _ n h e two
+empty-at s q S M p f x n (within.free low high o) (free {n = c} d k) e z two =
+    let same : c ≡ n = cc in absurd (omega (arith, rw same at low))
+
+-- D2 ends where tail is c
+d2-ends : (M : Mem) (levels l : ℕ) (f : Frame) (n : Node) → pointOf (f .point) ≡ point.D2 → then M (rowOf levels l f) (counted f) ≡ Done n
+    → M .tail (f .queue .0) ≡ f .c .0
+unfolding row counted
+d2-ends M levels l f n p e = by (eqb (M .tail (f .queue .0)) (f .c .0)) (same? (M .tail (f .queue .0)) (f .c .0)) (rw p at e)
+  where
+    by : (t : Bool) → Same (M .tail (f .queue .0)) (f .c .0) t
+        → then M (row point.D2 (counted f) (level l) (level levels)) (counted f) ≡ Done n → M .tail (f .queue .0) ≡ f .c .0
+    by true (same h) k = h
+    by false (apart h) k =
+        let goes = sym (if-other (M .tail (f .queue .0)) (f .c .0) _ _ h) ∙ k in
+        let no : _≡_ {A = ℕ} 0 1 = cc in
+        absurd (omega arith)
+
+-- a dequeue that ends empty, at a node c that D3 would find linked: it is at D2, tail is c, and memory stays as it is
+pub ends-empty : (s : Sizes) (q levels l : ℕ) (S : State) (f : Frame) (n : Node) → Within s q S (rowOf levels l f) → f .op ≡ 2
+    → (f .point ≡ numberOf point.D3 → S .mem .next (f .c .0) ≢ 0) → then (S .mem) (rowOf levels l f) (counted f) ≡ Done n → n .0 ≡ 0
+    → (pointOf (f .point) ≡ point.D2) × (S .mem .tail (f .queue .0) ≡ f .c .0) × (memAfter (S .mem) (rowOf levels l f) ≡ S .mem)
+unfolding row counted
+ends-empty s q levels l S f n inside two linked e z =
+    by (empty-at s q S (S .mem) (pointOf (f .point)) (counted f) (rowOf levels l f) n inside
+    (row-plain (pointOf (f .point)) (counted f) (level l) (level levels)) e z two)
+  where
+    by : (pointOf (f .point) ≡ point.D2) ⊎ (pointOf (f .point) ≡ point.D3)
+        → (pointOf (f .point) ≡ point.D2) × (S .mem .tail (f .queue .0) ≡ f .c .0) × (memAfter (S .mem) (rowOf levels l f) ≡ S .mem)
+    by (inl p) =
+        let same = ap (λ (x : Point). memAfter (S .mem) (row x (counted f) (level l) (level levels))) p in
+        (p, d2-ends (S .mem) levels l f n p e, same)
+    by (inr p) =
+        let at-D3 = number-D3 (f .point) p in
+        let goes = sym (d3-goes (S .mem) levels l f at-D3 (linked at-D3)) ∙ e in
+        let no : _≡_ {A = ℕ} 0 1 = cc in
+        absurd (omega arith)

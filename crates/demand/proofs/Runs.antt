@@ -44,20 +44,21 @@ module _ (s : Sizes) where
             keeps = keeps-same s t fronts m w;
             unharmed = λ k z. (let z : _≡_ {A = ℕ} 0 1 = cc in omega arith);
           }
-      by (took going-on u e k) on =
-          let r = on u (k .fronts′) (k .sized) (k .world) in
+      by (took l going-on a) on =
+          let k = a .keeps in
+          let r = on (a .table) (k .fronts′) (k .sized) (k .world) in
           record {
             said = r .said;
             table = r .table;
-            is = rw e (r .is);
-            keeps = keeps-then s t u (r .table) fronts (λ q. []) (λ q. []) (λ q. returnedByRun q (r .said)) (λ q. []) k (r .keeps);
+            is = rw (a .is) (r .is);
+            keeps = keeps-then s t (a .table) (r .table) fronts (λ q. []) (λ q. []) (λ q. returnedByRun q (r .said)) (λ q. []) k (r .keeps);
             unharmed = r .unharmed;
           }
-      by (took (ended x) u e k) on =
+      by (took l (ended x) a) on =
           record {
             said = after (n + 1) (an-end x);
-            table = u;
-            is = rw e;
-            keeps = k;
+            table = a .table;
+            is = rw (a .is);
+            keeps = a .keeps;
             unharmed = λ k z. (let z : _≡_ {A = ℕ} 0 1 = cc in omega arith);
           }

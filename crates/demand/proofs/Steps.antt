@@ -19,7 +19,7 @@ use Rattle.words.specs.Laws.{within-is}
 use Rattle.answers.specs.declared.End.{End}
 use Rattle.table.specs.declared.After.{After}
 use Rattle.table.specs.declared.After.the-variants.{Go, Done}
-use Rattle.table.specs.Points.{Point, D3, D7, numberOf, pointOf}
+use Rattle.table.specs.Points.{Point, D7, pointOf}
 use Rattle.table.specs.Frames.{counted}
 use Rattle.table.specs.Table.{Row}
 use Rattle.answers.specs.Said.{refused, says, Step}
@@ -105,7 +105,7 @@ module _ (r : ℕ) (e : End) where
   no-dequeue : e .op ≡ 1 → returnedAtEnd r e ≡ []
   no-dequeue h = rw (ne-eqb (e .op) 2 (λ z. omega arith))
 
-  no-node : e .node .0 ≡ 0 → returnedAtEnd r e ≡ []
+  pub no-node : e .node .0 ≡ 0 → returnedAtEnd r e ≡ []
   no-node h = by (eqb (e .op) 2) (eqb (e .queue .0) r) (eqb (e .node .0) 0) (eq-eqb (e .node .0) 0 h)
     where
       by : (a b c : Bool) → c ≡ true → cond (a && b && not c) (e .node .0 ∷ []) [] ≡ []
@@ -122,25 +122,25 @@ module _ (r : ℕ) (e : End) where
       by false b h = refl
       by true true h = let z : _≡_ {A = ℕ} 0 1 = cc in absurd (omega arith)
 
-  its-node : e .op ≡ 2 → e .queue .0 ≡ r → e .node .0 ≢ 0 → returnedAtEnd r e ≡ e .node .0 ∷ []
+  pub its-node : e .op ≡ 2 → e .queue .0 ≡ r → e .node .0 ≢ 0 → returnedAtEnd r e ≡ e .node .0 ∷ []
   its-node h k n = rw (eq-eqb (e .op) 2 h, eq-eqb (e .queue .0) r k, ne-eqb (e .node .0) 0 n)
 
 module _ (l : Level) (M : Mem) (f : Frame) where
   -- a step of another queue returns nothing from this one
-  returns-none : (r : ℕ) (a : After) → f .queue .0 ≢ r → returnedByStep r (saysOf l f a) ≡ []
+  pub returns-none : (r : ℕ) (a : After) → f .queue .0 ≢ r → returnedByStep r (saysOf l f a) ≡ []
   returns-none r (Go g) h = refl
   returns-none r (Done n) h = other-queue r (endOf l f n) h
 
-  plain-none : (r : ℕ) (a : After) → Plain f a → returnedByStep r (saysOf l f a) ≡ []
-  plain-none r a (goes o q) = refl
-  plain-none r a (empty {n = n} e) = no-node r (endOf l f n) e
-  plain-none r a (handed {n = n} o e) = no-dequeue r (endOf l f n) o
+  plain-none : (r : ℕ) (p : Point) (a : After) → Plain p f a → returnedByStep r (saysOf l f a) ≡ []
+  plain-none r p a (goes o q) = refl
+  plain-none r p a (empty {n = n} d e) = no-node r (endOf l f n) e
+  plain-none r p a (handed {n = n} o e) = no-dequeue r (endOf l f n) o
 
   -- a step returns the node that its row frees
   returns-out : (s : Sizes) (q : ℕ) (S : State) (p : Point) (x : Row) → Within s q S x → Plainly p f x → f .queue .0 ≡ q → (p ≡ D7 → f .op ≡ 2)
       → returnedByStep q (saysOf l f (then M x f)) ≡ outOf x
-  returns-out s q S p x (load b) (Plainly.load {w = w} h) k d = plain-none q _ (h (look M w))
-  returns-out s q S p x (store b m) (Plainly.store h) k d = plain-none q _ h
+  returns-out s q S p x (load b) (Plainly.load {w = w} h) k d = plain-none q p _ (h (look M w))
+  returns-out s q S p x (store b m) (Plainly.store h) k d = plain-none q p _ h
   returns-out s q S p x (free low high o) (Plainly.free {n = n} z e) k d = its-node q (endOf l f n) (d z) k (omega arith)
 
 -- ---- what one step does
@@ -188,11 +188,13 @@ pub record StepAt (s : Sizes) (t : List ℕ) (fronts : ℕ → List ℕ) (l : �
   pub is : stepSized s t ≡ (says x, table)
   pub bridged : Bridged s t table l (counted (frames s t l)) (rowOf (s .levels) l (frames s t l))
   pub keeps : Keeps s t fronts (λ q. returnedByStep q x) (λ q. []) table
-  pub linked : frames s t l .point ≡ numberOf D3 → memory s t .next (frames s t l .c .0) ≢ 0
+  pub runs : frames s t l .op ≢ 0
+  pub moving : Moving s (stateOf s t) fronts l (frames s t l .queue .0)
+  pub said : x ≡ saysOf (level l) (counted (frames s t l)) (then (memory s t) (rowOf (s .levels) l (frames s t l)) (counted (frames s t l)))
 
 pub data Outcome (s : Sizes) (t : List ℕ) (fronts : ℕ → List ℕ) : Type 0 where
   idle : stepSized s t ≡ (refused 9, t) → ((j : ℕ) → frames s t j .op ≡ 0) → Outcome s t fronts
-  took : (x : Step) (u : List ℕ) → stepSized s t ≡ (says x, u) → Keeps s t fronts (λ q. returnedByStep q x) (λ q. []) u → Outcome s t fronts
+  took : (l : ℕ) (x : Step) → StepAt s t fronts l x → Outcome s t fronts
 
 module _ (s : Sizes) (t : List ℕ) (fronts : ℕ → List ℕ) (m : measured t ≡ Sized s) (w : World s (stateOf s t) fronts) where
   -- the frame at level l is served
@@ -280,7 +282,9 @@ module _ (s : Sizes) (t : List ℕ) (fronts : ℕ → List ℕ) (m : measured t 
               (ap (λ (g : Frame). stepFrame s t (level l) (counted g)) e ∙ rw (sound-is s f (k .op) (k .point) somewhere) (done .1));
           bridged = done .2;
           keeps = took-from (done .0) (done .2);
-          linked = k .linked;
+          runs = running .0;
+          moving = k;
+          said = refl;
         }
 
   -- a step of a table in which all queues are sound
@@ -290,4 +294,4 @@ module _ (s : Sizes) (t : List ℕ) (fronts : ℕ → List ℕ) (m : measured t 
     where
       by : (v : Served) → serving s t (s .levels) ≡ v → Serves s t (s .levels) v → Outcome s t fronts
       by v e (nobody h) = idle (rw e) (λ j. frame-idle s t j (h j))
-      by v e (serves l low run top) = let k = step-at l low run top in took _ (k .table) (k .is) (k .keeps)
+      by v e (serves l low run top) = took l _ (step-at l low run top)

@@ -22,12 +22,13 @@ use Rattle.answers.specs.declared.End.{End}
 use Rattle.answers.specs.Said.{says, after, an-end}
 use Rattle.lists.specs.Count.{Same, same, apart, same?, hit, cnt, counts}
 use Rattle.lists.specs.Beginning.{begins-after}
-use Rattle.state.specs.Mem.{put, put-same, put-other}
+use Rattle.state.specs.Mem.{put-same, put-other}
 use Rattle.state.specs.View.{memory, frames, stateOf}
-use Rattle.state.proofs.Seen.{look-rd, frame-is, memory-put, frames-put}
+use Rattle.state.proofs.Seen.{look-rd, frame-is, memory-put}
 use Rattle.state.specs.Queues.{own}
-use Rattle.demand.specs.History.{Event, handedBy, returnedBy, all, handed, returned, stillIn, listed}
-use Rattle.demand.specs.Demand.{Reached, firstOf, EachOnce, ListingAnswers, BeginningKept, DequeueAlone, UseTells, UseListed, NoRefusal10, D3GoesOn}
+use Rattle.demand.specs.History.{Event, handedBy, returnedBy, all, handed, returned, endedOn, stillIn, listed}
+use Rattle.demand.specs.Demand.{Reached, firstOf, EachOnce, ListingAnswers, BeginningKept, DequeueAlone, AloneOnQueue}
+use Rattle.demand.specs.Demand.{UseTells, UseListed, NoRefusal10, D3GoesOn}
 use Rattle.demand.proofs.World.{World}
 use Rattle.demand.proofs.Keeps.{Keeps}
 use Rattle.demand.proofs.Rows.{d3-goes}
@@ -49,6 +50,8 @@ use Rattle.demand.proofs.Moments.{
 use Rattle.demand.proofs.Begins.{CanDequeue, can-dequeue, dequeue-kept}
 use Rattle.demand.proofs.Alone.{alone}
 use Rattle.demand.proofs.Dequeue.{Ending, Next, Going, run-ends, history-goes}
+use Rattle.demand.proofs.Among.{Begun}
+use Rattle.demand.proofs.Since.{Since, begun-since, history-since, sole-end, no-end}
 
 all-append : (f : Event → List ℕ) (es fs : List Event) → all f (es ++ fs) ≡ all f es ++ all f fs
 all-append f [] fs = refl
@@ -101,7 +104,7 @@ module _ (s : Sizes) (es : List Event) (t : List ℕ) (q : Queue) where
   pub listing-answers : ListingAnswers s es t q
   listing-answers r quiet room h =
       let k = reached s es t r in
-      listing-is s t (k .fronts) (k .sized) (k .world) q (quietly s t q (k .sized) quiet) room h
+      listing-is s t (k .fronts) (k .sized) (k .world) q (quietly s t q (k .sized) quiet) quiet room h
 
   pub beginning-kept : BeginningKept s es t q
   beginning-kept fs u r quiet h later =
@@ -143,18 +146,15 @@ module _ (s : Sizes) (es : List Event) (t : List ℕ) (q : Queue) where
       m : Keeps s t (k .fronts) (λ p. []) (λ p. []) u
       m = dequeue-kept s t (k .fronts) (k .sized) (k .world) l q u h
 
-      frames-are : frames s u ≡ put (frames s t) (l .0) g
-      frames-are = rw (c .table) (frames-put s t room l (c .low) g)
-
       next : Next s (l .0) (c .low) (memory s t) g u (m .fronts′)
       next =
           record {
             sized = m .sized;
             world = m .world;
             mem = rw (c .table) (memory-put s t room l g);
-            frame = rw frames-are (put-same (frames s t) (l .0) g);
+            frame = rw (c .frames-are) (put-same (frames s t) (l .0) g);
             runs = omega arith;
-            top = λ j a. rw (frames-are, put-other (frames s t) (l .0) g j (omega arith)) (c .idle j (omega arith));
+            top = λ j a. rw (c .frames-are, put-other (frames s t) (l .0) g j (omega arith)) (c .idle j (omega arith));
           }
 
       begins : Going s (l .0) (c .low) 2 q (firstOf (stillIn s t q)) (22 + l .0) u
@@ -181,6 +181,34 @@ module _ (s : Sizes) (es : List Event) (t : List ℕ) (q : Queue) where
       e : (steps : ℕ) × (e : End) × (z : List ℕ) × (runFrom s budget 0 v ≡ (says (after steps (an-end e)), z))
           × Ending (l .0) 2 q (firstOf (stillIn s t q)) e
       e = run-ends s (l .0) (c .low) (22 + l .0) v w budget 0 enough
+
+  pub alone-on-queue : AloneOnQueue s es t q
+  alone-on-queue l u v fs r quiet h later elsewhere = (λ again. the-end (sole-end B v (endedOn q fs) w again), no-end B v (endedOn q fs) w)
+    where
+      k : Here s es t
+      k = reached s es t r
+
+      nb : Nobody s t q
+      nb = quietly s t q (k .sized) quiet
+
+      B : Begun
+      B = record { s = s; t = t; l = l; q = q; fronts = k .fronts; sized = k .sized; world = k .world; nobody = nb }
+
+      w : Since B v (endedOn q fs)
+      w = history-since B u v [] fs (begun-since B u h) later elsewhere
+
+      the-end : (e : End) × (endedOn q fs ≡ e ∷ []) × Ending (l .0) 2 q (firstOf (stillIn s t q)) e
+          → (e : End) × (endedOn q fs ≡ e ∷ [])
+          × (e .op ≡ 2) × (e .level ≡ l) × (e .queue ≡ q) × (e .node .0 ≡ firstOf (stillIn s t q)) × (e .node .0 ≡ 0 → stillIn s t q ≡ [])
+      the-end (e, sole, z) = (
+        e,
+        sole,
+        z .op,
+        z .level-is,
+        z .queue-is,
+        z .node-is,
+        λ y. still-none s t (k .fronts) (k .sized) (k .world) q nb (sym (z .node-is) ∙ y),
+      )
 
 module _ (s : Sizes) (es : List Event) (t : List ℕ) (q : Queue) (n : Node) where
   -- a user's node is a queue's where its use names it
@@ -219,6 +247,6 @@ module _ (s : Sizes) (es : List Event) (t : List ℕ) where
       let v = serves-at s t (s .levels) l e in
       let f = frame-is s t (l .0) (v .0) in
       let a = step-at s t (k .fronts) (k .sized) (k .world) (l .0) (v .0) (v .1) (v .2) in
-      let z = d3-goes (memory s t) (s .levels) (l .0) (frames s t (l .0)) (rw f p) (a .linked (rw f p)) in
+      let z = d3-goes (memory s t) (s .levels) (l .0) (frames s t (l .0)) (rw f p) (a .moving .linked (rw f p)) in
       let o = rw z at a in
       rw (step-of s t (k .sized), o .is)

@@ -35,6 +35,7 @@ use Rattle.demand.specs.History.{
   History,
   handed,
   returned,
+  endedOn,
   stillIn,
   listed,
 }
@@ -62,6 +63,18 @@ Uneventful asked = Unit
 abbrev pub AllUneventful : List Event → Type 0
 AllUneventful [] = Unit
 AllUneventful (e ∷ es) = Uneventful e × AllUneventful es
+
+-- calls that begin nothing on q; on other queues they may
+abbrev pub BeginsElsewhere : Queue → Event → Type 0
+BeginsElsewhere q (enqueued l r n) = r ≢ q
+BeginsElsewhere q (dequeued l r) = r ≢ q
+BeginsElsewhere q (stepped x) = Unit
+BeginsElsewhere q (ran budget x) = Unit
+BeginsElsewhere q asked = Unit
+
+abbrev pub NothingBegunOn : Queue → List Event → Type 0
+NothingBegunOn q [] = Unit
+NothingBegunOn q (e ∷ es) = BeginsElsewhere q e × NothingBegunOn q es
 
 -- the first node of a list, 0 for none
 abbrev pub firstOf : List ℕ → ℕ
@@ -93,6 +106,18 @@ module _ (s : Sizes) (es : List Event) (t : List ℕ) (q : Queue) where
       → History u fs v → AllUneventful fs → (budget : ℕ) → 22 + l .0 ≤ budget
       → (steps : ℕ) × (e : End) × (w : List ℕ) × (runOf budget v ≡ (says (after steps (an-end e)), w))
       × (e .op ≡ 2) × (e .level ≡ l) × (e .queue ≡ q) × (e .node .0 ≡ firstOf (stillIn s t q)) × (e .node .0 ≡ 0 → stillIn s t q ≡ [])
+
+  -- A dequeue begun when q is quiet, with nothing else begun on q; on other queues anything may begin, run and end. Once q is quiet
+  -- again, one operation has ended on q: this dequeue, and it returned the first node still in q when it began, or empty exactly if
+  -- there was none. Until then nothing has ended on q.
+  abbrev pub AloneOnQueue : Type 0
+  AloneOnQueue =
+      (l : Level) (u v : List ℕ) (fs : List Event) → Reached s es t → QuietAt t q → dequeueOf t l q ≡ (says tt, u)
+      → History u fs v → NothingBegunOn q fs
+      → (QuietAt v q
+      → (e : End) × (endedOn q fs ≡ e ∷ [])
+      × (e .op ≡ 2) × (e .level ≡ l) × (e .queue ≡ q) × (e .node .0 ≡ firstOf (stillIn s t q)) × (e .node .0 ≡ 0 → stillIn s t q ≡ []))
+      × ((¬ QuietAt v q) → endedOn q fs ≡ [])
 
 module _ (s : Sizes) (es : List Event) (t : List ℕ) (q : Queue) (n : Node) where
   -- A user's node was handed to q once more than it was returned where its use names q, and as often where it does not: at every moment.

@@ -39,7 +39,7 @@ pub data History : List ℕ → List Event → List ℕ → Type 0 where
   none : {t u : List ℕ} → t ≡ u → History t [] u
   call : {t u v : List ℕ} {e : Event} {es : List Event} → Accepted t u e → History u es v → History t (e ∷ es) v
 
--- ---- handed to queue q, and returned from it, in order
+-- ---- handed to queue q, returned from it, and ended on it, in order
 
 abbrev pub handedBy : ℕ → Event → List ℕ
 handedBy q (enqueued l r n) = cond (eqb (r .0) q) (n .0 ∷ []) []
@@ -48,29 +48,43 @@ handedBy q (stepped x) = []
 handedBy q (ran budget x) = []
 handedBy q asked = []
 
+-- what f gives of the operation that ended in a step, a run, a call; nothing where none did
+abbrev pub ofStep : {A : Type 0} → (End → List A) → Step → List A
+ofStep f going-on = []
+ofStep f (ended e) = f e
+
+abbrev pub ofRun : {A : Type 0} → (End → List A) → Run → List A
+ofRun f (after n (an-end e)) = f e
+ofRun f (after n spent) = []
+ofRun f (after n nothing-runs) = []
+ofRun f (after n refusal-10) = []
+
+abbrev pub ofCall : {A : Type 0} → (End → List A) → Event → List A
+ofCall f (enqueued l r n) = []
+ofCall f (dequeued l r) = []
+ofCall f (stepped x) = ofStep f x
+ofCall f (ran budget x) = ofRun f x
+ofCall f asked = []
+
 -- a dequeue on q that ended, and not empty, returned its node
 abbrev pub returnedAtEnd : ℕ → End → List ℕ
 returnedAtEnd q e = cond (eqb (e .op) 2 && eqb (e .queue .0) q && not (eqb (e .node .0) 0)) (e .node .0 ∷ []) []
 
 abbrev pub returnedByStep : ℕ → Step → List ℕ
-returnedByStep q going-on = []
-returnedByStep q (ended e) = returnedAtEnd q e
+returnedByStep q x = ofStep (returnedAtEnd q) x
 
 abbrev pub returnedByRun : ℕ → Run → List ℕ
-returnedByRun q (after n (an-end e)) = returnedAtEnd q e
-returnedByRun q (after n spent) = []
-returnedByRun q (after n nothing-runs) = []
-returnedByRun q (after n refusal-10) = []
+returnedByRun q x = ofRun (returnedAtEnd q) x
 
 abbrev pub returnedBy : ℕ → Event → List ℕ
-returnedBy q (enqueued l r n) = []
-returnedBy q (dequeued l r) = []
-returnedBy q (stepped x) = returnedByStep q x
-returnedBy q (ran budget x) = returnedByRun q x
-returnedBy q asked = []
+returnedBy q e = ofCall (returnedAtEnd q) e
+
+-- an operation on q, whatever it answered
+abbrev pub endedAt : ℕ → End → List End
+endedAt q e = cond (eqb (e .queue .0) q) (e ∷ []) []
 
 -- by all calls of a history
-abbrev pub all : (Event → List ℕ) → List Event → List ℕ
+abbrev pub all : {A : Type 0} → (Event → List A) → List Event → List A
 all f [] = []
 all f (e ∷ es) = f e ++ all f es
 
@@ -79,6 +93,9 @@ handed q es = all (handedBy (q .0)) es
 
 abbrev pub returned : Queue → List Event → List ℕ
 returned q es = all (returnedBy (q .0)) es
+
+abbrev pub endedOn : Queue → List Event → List End
+endedOn q es = all (ofCall (endedAt (q .0))) es
 
 -- ---- still in queue q
 
