@@ -23,7 +23,7 @@ use Rattle.table.specs.Points.{D2, pointOf}
 use Rattle.table.specs.Frames.{counted}
 use Rattle.steps.specs.Step.{endOf}
 use Rattle.lists.specs.Count.{Same, same, apart, same?, cnt, counts}
-use Rattle.lists.specs.Beginning.{Beginning, begins-trans}
+use Rattle.lists.specs.Beginning.{Beginning, begins-trans, begins-whole}
 use Rattle.state.specs.Mem.{Mem, put, put-same, put-other}
 use Rattle.state.specs.Step.{memAfter, then, frameAfter, rowOf}
 use Rattle.state.specs.View.{memory, frames, stateOf}
@@ -41,16 +41,6 @@ use Rattle.demand.proofs.Moments.{Nobody, own-sentinel, still-front, st
 use Rattle.demand.proofs.Dequeue.{Ending}
 use Rattle.demand.specs.History.{returnedAtEnd, returnedByStep, endedAt, ofStep, stillIn}
 use Rattle.demand.specs.Demand.{firstOf}
-
--- a beginning that holds each number as often as the whole is the whole
-whole : (xs ys : List ℕ) → Beginning xs ys → ((n : ℕ) → cnt n ys ≡ cnt n xs) → xs ≡ ys
-whole xs ys b h = by (b .0) (b .1)
-  where
-    by : (rest : List ℕ) → xs ++ rest ≡ ys → xs ≡ ys
-    by [] e = sym (append-nil xs) ∙ e
-    by (r ∷ rest) e =
-        let more = simp counts at (ap (cnt r) e) in
-        absurd (omega (arith, h r))
 
 -- ---- an empty end
 
@@ -235,7 +225,7 @@ module _ (B : Begun) where
 
         -- all that was in q was returned or is in q still: the one is a beginning of the other, and they hold the same nodes
         all-there : before ≡ returnedByStep (q .0) y ++ stillIn s u q
-        all-there = whole before (returnedByStep (q .0) y ++ stillIn s u q) begins held
+        all-there = begins-whole before (returnedByStep (q .0) y ++ stillIn s u q) begins held
           where
             out : List ℕ
             out = returnedByStep (q .0) y

@@ -36,6 +36,16 @@ begins-after pre xs ys p = (p .0, append-assoc pre xs (p .0) ∙ ap (λ (l : Lis
 pub begins-more : (xs ys : List ℕ) → Beginning xs (xs ++ ys)
 begins-more xs ys = (ys, refl)
 
+-- a beginning that holds each number as often as the whole is the whole
+pub begins-whole : (xs ys : List ℕ) → Beginning xs ys → ((n : ℕ) → cnt n ys ≡ cnt n xs) → xs ≡ ys
+begins-whole xs ys b h = by (b .0) (b .1)
+  where
+    by : (rest : List ℕ) → xs ++ rest ≡ ys → xs ≡ ys
+    by [] e = sym (append-nil xs) ∙ e
+    by (r ∷ rest) e =
+        let more = simp counts at (ap (cnt r) e) in
+        absurd (omega (arith, h r))
+
 -- ---- one number left out
 
 pub without-append : (q : ℕ) (xs ys : List ℕ) → without q (xs ++ ys) ≡ without q xs ++ without q ys

@@ -2,7 +2,7 @@
 //
 // A program has no exit status of its own: ./bench goes by what it wrote on standard error. A line that begins `bench: ` says
 // that the program failed; any other line there is progress. Both are written through `say`, whole lines with their LF.
-ghost use Prim.Native.Nat.{_+_, _≤_, _-_};
+ghost use Prim.Native.Nat.{_-_, _≤_};
 ghost use lib.ListN.{length};
 ghost use Rattle.streams.specs.Within.{Within};
 use libc::STDERR_FILENO;

@@ -1,4 +1,3 @@
-use Prim.Native.Nat.{_-_}
 use mathlib.Core.Path.{_≡_, refl, sym, ap, _∙_}
 use Rattle.text.specs.Reading.{eventAnswer, endAnswer}
 use Rattle.schedule.specs.Whole.{restReading}
