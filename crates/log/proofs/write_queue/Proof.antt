@@ -6,8 +6,9 @@ use Rattle.log.proofs.write_queue.Tie as tie
 
 put-queue-requires : tie.Need-put-queue-requires
 put-queue-requires c κs =
-    let told = rw (c .before .before .before .before .n .given .1) at (c .before .before .before .before .before .before .before .listing .ensures) in
-    rw (c .wide .ensures) (listing-count _ _ _ _ _ told .1)
+    let is-listed = c .before .before .before .before .n .given .1 in
+    let listed = c .before .before .before .before .before .before .before .listing .ensures in
+    rw (c .wide .ensures) (listing-count _ _ _ _ _ (rw is-listed at listed) .1)
 
 returns : tie.Need-returns
 returns c = rw (queue-listed _ _ _ _ (rw (c .before .before .before .before .before .before .before .n .given .1) at (c .before .before .before .before .before .before .before .before .before .before .listing .ensures))) (rw (c .before .before .before .wide .ensures) at (c .before .before .put-queue .ensures))
