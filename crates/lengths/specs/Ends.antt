@@ -47,29 +47,29 @@ use Rattle.begins.specs.Laws.{Enqueues, enqueues, dequeues}
 use Rattle.fresh.specs.Fresh.{freshTable}
 use Rattle.fresh.specs.Laws.{fresh-measured, fresh-frame}
 use Rattle.play.specs.Steps.{step-kept}
-use Rattle.lengths.specs.Running.{runs, runningBelow, runningMeasured, running, endsIn}
+use Rattle.lengths.specs.Running.{active, runningBelow, runningMeasured, running, endsIn}
 
 -- ---- one frame
 
-runs-op : (f g : Frame) → f .op ≡ g .op → runs f ≡ runs g
-unfolding runs
-runs-op f g e = rw e
+active-op : (f g : Frame) → f .op ≡ g .op → active f ≡ active g
+unfolding active
+active-op f g e = rw e
 
-runs-one : (f : Frame) → f .op ≢ 0 → runs f ≡ 1
-unfolding runs
-runs-one f h = rw (ne-eqb (f .op) 0 h)
+active-one : (f : Frame) → f .op ≢ 0 → active f ≡ 1
+unfolding active
+active-one f h = rw (ne-eqb (f .op) 0 h)
 
-runs-most : (f : Frame) → runs f ≤ 1
-unfolding runs
-runs-most f = by (eqb (f .op) 0)
+active-most : (f : Frame) → active f ≤ 1
+unfolding active
+active-most f = by (eqb (f .op) 0)
   where
     by : (b : Bool) → cond b 0 1 ≤ 1
     by true = omega arith
     by false = omega arith
 
-runs-none : runs noFrame ≡ 0
-unfolding runs
-runs-none = refl
+active-none : active noFrame ≡ 0
+unfolding active
+active-none = refl
 
 -- ---- the levels below n
 
@@ -84,7 +84,7 @@ module _ (s : Sizes) where
   below-idle t zero h = refl
   below-idle t (suc n) h =
       let ih = below-idle t n (λ k p. h k (omega arith)) in
-      let e : runs (frameOf s t (level n)) ≡ 0 = ap runs (h n (omega arith)) ∙ runs-none in
+      let e : active (frameOf s t (level n)) ≡ 0 = ap active (h n (omega arith)) ∙ active-none in
       omega arith
 
   -- a frame put at a level that is not below n, and at one that is
@@ -93,26 +93,26 @@ module _ (s : Sizes) where
   put-above t l g zero h = refl
   put-above t l g (suc n) h =
       let ih = put-above t l g n (omega arith) in
-      let e = ap runs (frame-other s t l g (level n) (omega arith)) in
+      let e = ap active (frame-other s t l g (level n) (omega arith)) in
       omega arith
 
   put-counts : (t : List ℕ) (l : Level) (g : Frame) (n : ℕ) → words s ≤ length t → l .0 < s .levels → l .0 < n
-      → runningBelow s (putFrame s t l g) n + runs (frameOf s t l) ≡ runningBelow s t n + runs g
+      → runningBelow s (putFrame s t l g) n + active (frameOf s t l) ≡ runningBelow s t n + active g
   unfolding runningBelow
   put-counts t l g zero long in-l h = absurd (omega arith)
   put-counts t l g (suc n) long in-l h = by (eqb n (l .0)) (same? n (l .0)) (put-counts t l g n long in-l)
     where
       by : (b : Bool) → Same n (l .0) b
-          → (l .0 < n → runningBelow s (putFrame s t l g) n + runs (frameOf s t l) ≡ runningBelow s t n + runs g)
-          → runningBelow s (putFrame s t l g) (suc n) + runs (frameOf s t l) ≡ runningBelow s t (suc n) + runs g
+          → (l .0 < n → runningBelow s (putFrame s t l g) n + active (frameOf s t l) ≡ runningBelow s t n + active g)
+          → runningBelow s (putFrame s t l g) (suc n) + active (frameOf s t l) ≡ runningBelow s t (suc n) + active g
       by true (same e) below-l =
           let at : level n ≡ l = ap level e in
-          let new : runs (frameOf s (putFrame s t l g) l) ≡ runs g = ap runs (frame-same s t l g long in-l) in
+          let new : active (frameOf s (putFrame s t l g) l) ≡ active g = ap active (frame-same s t l g long in-l) in
           let below = put-above t l g n (omega arith) in
           rw at (omega arith)
       by false (apart e) below-l =
           let ih = below-l (omega arith) in
-          let kept = ap runs (frame-other s t l g (level n) e) in
+          let kept = ap active (frame-other s t l g (level n) e) in
           omega arith
 
 -- ---- a step
@@ -133,13 +133,13 @@ module _ (s : Sizes) (t : List ℕ) (l : Level) (f : Frame) (m : measured t ≡ 
   settled-balanced u (Go g) kept long op =
       let put = put-counts s u l g (s .levels) long in-l in-l in
       let others = below-same s t u (s .levels) kept in
-      let was : runs (frameOf s u l) ≡ runs g = ap runs (kept l) ∙ runs-op (frameOf s t l) g (sym (op ∙ op-is)) in
+      let was : active (frameOf s u l) ≡ active g = ap active (kept l) ∙ active-op (frameOf s t l) g (sym (op ∙ op-is)) in
       omega arith
   settled-balanced u (Done n) kept long op =
       let put = put-counts s u l noFrame (s .levels) long in-l in-l in
       let others = below-same s t u (s .levels) kept in
-      let was : runs (frameOf s u l) ≡ 1 = ap runs (kept l) ∙ runs-op (frameOf s t l) f (sym op-is) ∙ runs-one f op-runs in
-      let now = runs-none in
+      let was : active (frameOf s u l) ≡ 1 = ap active (kept l) ∙ active-op (frameOf s t l) f (sym op-is) ∙ active-one f op-runs in
+      let now = active-none in
       omega arith
 
   long : words s ≤ length t
@@ -209,7 +209,7 @@ begun-most s t l g m in-l =
     let put = put-counts s t l g (s .levels) (measured-fits t s m .room) in-l in-l in
     let after = running-is s (putFrame s t l g) (measured-put s t l g m) in
     let before = running-is s t m in
-    let one = runs-most g in
+    let one = active-most g in
     omega arith
 
 -- accepted or refused

@@ -11,13 +11,13 @@ use Rattle.words.specs.Layout.{level, measured, frameOf}
 use Rattle.answers.specs.Said.{Said, refused, says, Step, going-on, ended}
 
 -- 1 for a frame whose op is not 0
-unfoldable pub runs : Frame → ℕ
-runs f = cond (eqb (f .op) 0) 0 1
+unfoldable pub active : Frame → ℕ
+active f = cond (eqb (f .op) 0) 0 1
 
 -- how many levels below n run an operation
 unfoldable pub runningBelow : Sizes → List ℕ → ℕ → ℕ
 runningBelow s t zero = 0
-runningBelow s t (suc n) = runs (frameOf s t (level n)) + runningBelow s t n
+runningBelow s t (suc n) = active (frameOf s t (level n)) + runningBelow s t n
 
 unfoldable pub runningMeasured : List ℕ → Measured → ℕ
 runningMeasured t Unfit = 0

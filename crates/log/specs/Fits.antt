@@ -25,7 +25,7 @@ use Rattle.play.specs.Play.{eventsOf}
 use Rattle.lengths.specs.Running.{running}
 use Rattle.lengths.specs.Ends.{fresh-idle}
 use Rattle.lengths.specs.Lines.{text-most, queue-most, unquiet-most}
-use Rattle.lengths.specs.Events.{beginsIn, events-most, begins-most}
+use Rattle.lengths.specs.Events.{begunIn, events-most, begun-lines}
 use Rattle.log.specs.Log.{listedLine, queueOf, queuesOf, openingSizes, withQueues, sizedLog, readLog, logText, logRoom}
 use Rattle.log.specs.Listed.{listing-count}
 
@@ -52,7 +52,7 @@ queues-fit t q (suc n) =
 
 -- ---- the whole log
 
-module _ (o : Opening) (es : List Event) (few : 6 * beginsIn es ≤ longest) where
+module _ (o : Opening) (es : List Event) (few : 6 * begunIn es ≤ longest) where
   played-fits : (t : List ℕ) → running t ≡ 0 → o .queues ≤ 8 → length (withQueues o (eventsOf 1 es t) .0) ≤ logRoom
   played-fits t idle queues =
       let events = events-most 1 es t in
@@ -81,6 +81,6 @@ log-fits text t = by (scheduleReading text) refl
     by (refuses number values) e = let line = text-most (getD values 0 0) in omega arith
     by (gives (o, es)) e =
         let w = is-written text o es e in
-        let begins = begins-most o es in
+        let begun = begun-lines o es in
         let short = w .1 .short in
         sized-fits o es (omega arith) t

@@ -36,7 +36,7 @@ use Rattle.log.specs.Log.{
   logText,
   largest,
   logRoom,
-  laid,
+  putLog,
   logOf,
 }
 use Rattle.log.specs.Parts.{placedLog}
@@ -181,7 +181,7 @@ module _ (text t room : List ℕ) (roomy : logRoom ≤ length room) where
 
   pub log-laid : {after u : List ℕ} {n : ℕ} → largest ≤ length t → into (At 0, room) (logText text t) ≡ ((At n, after), u)
       → logOf text t room ≡ ((says n, after), u)
-  unfolding logOf laid
+  unfolding logOf putLog
   log-laid {after} {u} {n} long e =
       let same = sym inked ∙ e in
       let at : _≡_ {A = Pen} (At (length (logText text t .0))) (At n) = ap (λ y. y .0 .0) same in
@@ -198,10 +198,10 @@ module _ (text t room : List ℕ) (roomy : logRoom ≤ length room) where
 
 -- the bytes that are answered are in the room
 pub log-within : (text t room after u : List ℕ) (n : ℕ) → logOf text t room ≡ ((says n, after), u) → n ≤ length after
-unfolding logOf laid
+unfolding logOf putLog
 log-within text t room after u n h = by (ltb (length t) largest) (ltb (length room) logRoom) h
   where
-    by : (a b : Bool) → cond a ((refused 1, room), t) (cond b ((refused 12, room), t) (laid (logText text t) room)) ≡ ((says n, after), u)
+    by : (a b : Bool) → cond a ((refused 1, room), t) (cond b ((refused 12, room), t) (putLog (logText text t) room)) ≡ ((says n, after), u)
         → n ≤ length after
     by true b e =
         let f : _≡_ {A = Said ℕ} (refused 1) (says n) = ap (λ q. q .0 .0) e in let z : _≡_ {A = ℕ} 0 1 = cc in absurd (omega arith)

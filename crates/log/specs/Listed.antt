@@ -17,17 +17,17 @@ use Rattle.conditions.specs.Conditions.{noQueue, unquiet}
 use Rattle.asks.specs.Listing.{nodesOf, listed, listingSized, listingMeasured, listingOf}
 
 module _ (n : ℕ) (after room : List ℕ) where
-  -- as many nodes as the room has, before and after
-  abbrev Counted : Type 0
-  Counted = (n ≤ length room) × (n ≤ length after)
+  -- no more than the room has, before and after
+  abbrev InBoth : Type 0
+  InBoth = (n ≤ length room) × (n ≤ length after)
 
-  not-refused : (b : Bool) (r : ℕ) (y : Said ℕ × List ℕ) → (b ≡ false → y ≡ (says n, after) → Counted)
-      → cond b (refused r, room) y ≡ (says n, after) → Counted
+  not-refused : (b : Bool) (r : ℕ) (y : Said ℕ × List ℕ) → (b ≡ false → y ≡ (says n, after) → InBoth)
+      → cond b (refused r, room) y ≡ (says n, after) → InBoth
   not-refused true r y k e =
       let f : _≡_ {A = Said ℕ} (refused r) (says n) = ap (λ q. q .0) e in let z : _≡_ {A = ℕ} 0 1 = cc in absurd (omega arith)
   not-refused false r y k e = k refl e
 
-  listed-count : (o : Option (List ℕ)) → listed o room ≡ (says n, after) → Counted
+  listed-count : (o : Option (List ℕ)) → listed o room ≡ (says n, after) → InBoth
   unfolding listed
   listed-count none e =
       let f : _≡_ {A = Said ℕ} (refused 10) (says n) = ap (λ q. q .0) e in let z : _≡_ {A = ℕ} 0 1 = cc in absurd (omega arith)

@@ -60,14 +60,14 @@ abbrev pub logRoom : ℕ
 logRoom = 393216
 
 -- the log at the room's start and nothing past it, and the table afterwards
-unfoldable pub laid : List ℕ × List ℕ → List ℕ → (Said ℕ × List ℕ) × List ℕ
-laid p room = ((says (length (p .0)), p .0 ++ drop (length (p .0)) room), p .1)
+unfoldable pub putLog : List ℕ × List ℕ → List ℕ → (Said ℕ × List ℕ) × List ℕ
+putLog p room = ((says (length (p .0)), p .0 ++ drop (length (p .0)) room), p .1)
 
 -- refusals 1 and 12 for a table or a room that is too small, whatever the text is
 unfoldable pub logOf : List ℕ → List ℕ → List ℕ → (Said ℕ × List ℕ) × List ℕ
 logOf text t room =
     cond (ltb (length t) largest) ((refused 1, room), t)
-    (cond (ltb (length room) logRoom) ((refused 12, room), t) (laid (logText text t) room))
+    (cond (ltb (length room) logRoom) ((refused 12, room), t) (putLog (logText text t) room))
 
 -- which of these each answer of the code is
 abbrev pub logSays : Logged → Said ℕ

@@ -70,7 +70,7 @@ module _ (s : Sizes) where
   unfolding stepSized
   step-kept t m = served-kept t _ m
 
-  pub step-is : (t : List ℕ) → measured t ≡ Sized s → stepOf t ≡ stepSized s t
+  step-is : (t : List ℕ) → measured t ≡ Sized s → stepOf t ≡ stepSized s t
   unfolding stepOf stepMeasured
   step-is t m = rw m
 

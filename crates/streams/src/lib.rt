@@ -4,7 +4,7 @@
 // that the program failed; any other line there is progress. Both are written through `say`, whole lines with their LF.
 ghost use Prim.Native.Nat.{_-_, _≤_};
 ghost use lib.ListN.{length};
-ghost use Rattle.streams.specs.Within.{Within};
+ghost use Rattle.streams.specs.InRoom.{InRoom};
 use libc::STDERR_FILENO;
 use libc::STDIN_FILENO;
 use libc::STDOUT_FILENO;
@@ -24,7 +24,7 @@ pub fn say(line: &[u8]) {
 // One read, into the room from a place on.
 fn read_on(room: &mut [u8], from: usize) -> Input
     requires { ⌜ from ≤ length (now room) ⌝ }
-    ensures { λ r. ⌜ Within r (length (now (room .entry)) - from) ⌝ }
+    ensures { λ r. ⌜ InRoom r (length (now (room .entry)) - from) ⌝ }
 {
     let rest = &mut room[from..];
     let got = libc::read(STDIN_FILENO, rest);
@@ -37,7 +37,7 @@ fn read_on(room: &mut [u8], from: usize) -> Input
 
 // Reads standard input to its end, or until the room is full. A failure has been said when this answers it.
 pub fn read_input(room: &mut [u8]) -> Input
-    ensures { λ r. ⌜ Within r (length (now (room .exit))) ⌝ }
+    ensures { λ r. ⌜ InRoom r (length (now (room .exit))) ⌝ }
 {
     let mut done = 0;
     while done < room.len() {

@@ -2,6 +2,6 @@
 use Prim.Native.Nat.{ℕ, _≤_}
 use Rattle.streams.specs.declared.Input.{Input}
 
-abbrev pub Within : Input → ℕ → Type 0
-Within (Input.Bytes n) room = n ≤ room
-Within Input.Failed room = Unit {0}
+abbrev pub InRoom : Input → ℕ → Type 0
+InRoom (Input.Bytes n) room = n ≤ room
+InRoom Input.Failed room = Unit {0}
