@@ -1,8 +1,8 @@
 -- The points by their numbers, and the branches of the step table.
 use Prim.Native.Nat.{ℕ}
 use mathlib.Core.Path.{_≡_, refl}
-use mathlib.Core.List.{List, [], _∷_, _++_}
-use mathlib.Core.Bool.{Bool, true, false, cond}
+use mathlib.Core.List.{List, [], _∷_}
+use mathlib.Core.Bool.{false}
 use lib.Dec.{eqb}
 use borrow.Author.Tests.{eq-eqb, ne-eqb}
 use Rattle.table.specs.declared.After.{After}
@@ -71,15 +71,6 @@ none-in n A (x ∷ xs) h =
 
 pub none-of : (xs : List Point) (n : ℕ) → NoneOf n (Unit {0}) xs → pointIn xs n ≡ Unknown
 none-of xs n h = none-in n (Unit {0}) xs h .1
-
-pub none-of-both : (xs ys : List Point) (n : ℕ) → pointIn xs n ≡ Unknown → pointIn ys n ≡ Unknown → pointIn (xs ++ ys) n ≡ Unknown
-none-of-both [] ys n p q = q
-none-of-both (x ∷ xs) ys n p q = by (eqb n (numberOf x)) (λ h. none-of-both xs ys n h q) p
-  where
-    by : (b : Bool) → (pointIn xs n ≡ Unknown → pointIn (xs ++ ys) n ≡ Unknown) → cond b x (pointIn xs n) ≡ Unknown
-        → cond b x (pointIn (xs ++ ys) n) ≡ Unknown
-    by true ih h = h
-    by false ih h = ih h
 
 -- a branch of the step table, by what it tests
 pub if-same : (a b : ℕ) (x y : After) → a ≡ b → ifEq a b x y ≡ x

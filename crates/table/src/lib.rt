@@ -1,26 +1,12 @@
 // The points and the step table.
 ghost use mathlib.Core.Path.{_≡_};
-ghost use mathlib.Core.List.{map, _++_};
-ghost use Rattle.table.specs.Points.{Unknown, pointIn, pointOf, numberOf, points};
+ghost use mathlib.Core.List.{map};
+ghost use Rattle.table.specs.Points.{pointOf, numberOf, points};
 ghost use Rattle.words.specs.Inner.{Fits};
-ghost use Rattle.table.specs.Frames.{
-  setN,
-  setK,
-  setP,
-  setC,
-  setA,
-  setR,
-  setM,
-  counted,
-  ifEq,
-  goTo,
-  belowKTo,
-  belowMTo,
-  walkTo,
-  ends,
-};
-ghost use Rattle.table.specs.Table.{stores, frees, row};
-ghost use Rattle.table.specs.Turn.{entering, inserting, loaded, turned};
+ghost use Rattle.table.specs.declared.After.the-variants.{Go, Done};
+ghost use Rattle.table.specs.Frames.{counted, goTo, belowKTo, belowMTo};
+ghost use Rattle.table.specs.Table.{row};
+ghost use Rattle.table.specs.Turn.{loaded, stored, follows, turned};
 use words::Frame;
 use words::Level;
 use words::Node;
@@ -181,60 +167,6 @@ fn apart(f: Frame) -> Frame
     }
 }
 
-fn with_n(mut f: Frame, v: u16) -> Frame
-    ensures { λ r. ⌜ r ≡ setN v f ⌝ }
-{
-    let w = Node(v);
-    f.node = w;
-    apart(f)
-}
-
-fn with_k(mut f: Frame, v: Level) -> Frame
-    ensures { λ r. ⌜ r ≡ setK v f ⌝ }
-{
-    f.k = v;
-    apart(f)
-}
-
-fn with_p(mut f: Frame, v: u16) -> Frame
-    ensures { λ r. ⌜ r ≡ setP v f ⌝ }
-{
-    let w = Node(v);
-    f.p = w;
-    apart(f)
-}
-
-fn with_c(mut f: Frame, v: u16) -> Frame
-    ensures { λ r. ⌜ r ≡ setC v f ⌝ }
-{
-    let w = Node(v);
-    f.c = w;
-    apart(f)
-}
-
-fn with_a(mut f: Frame, v: u16) -> Frame
-    ensures { λ r. ⌜ r ≡ setA v f ⌝ }
-{
-    let w = Node(v);
-    f.a = w;
-    apart(f)
-}
-
-fn with_r(mut f: Frame, v: u16) -> Frame
-    ensures { λ r. ⌜ r ≡ setR v f ⌝ }
-{
-    let w = Node(v);
-    f.r = w;
-    apart(f)
-}
-
-fn with_m(mut f: Frame, v: Level) -> Frame
-    ensures { λ r. ⌜ r ≡ setM v f ⌝ }
-{
-    f.m = v;
-    apart(f)
-}
-
 // One step more; 65,535 stays.
 pub fn count_step(mut f: Frame) -> Frame
     ensures { λ r. ⌜ r ≡ counted f ⌝ }
@@ -248,66 +180,10 @@ pub fn count_step(mut f: Frame) -> Frame
     }
 }
 
-fn go(mut f: Frame, x: u16) -> After
-    ensures { λ r. ⌜ r ≡ goTo x f ⌝ }
-{
-    f.point = x;
-    After::Go(apart(f))
-}
-
-// To x if a is b, else to y.
-fn go_if_same(f: Frame, a: u16, b: u16, x: u16, y: u16) -> After
-    ensures { λ r. ⌜ r ≡ ifEq a b (goTo x f) (goTo y f) ⌝ }
-{
-    if a == b { go(f, x) } else { go(f, y) }
-}
-
-// An enqueue ends with its node; a dequeue goes to x.
-fn end_or_go(f: Frame, x: u16) -> After
-    ensures { λ r. ⌜ r ≡ ifEq (f .op) 1 (ends (f .node .0)) (goTo x f) ⌝ }
-{
-    let n = f.node;
-    if f.op == 1 { After::Done(n) } else { go(f, x) }
-}
-
-// Below k: to x if k is 0, else take 1 from k and go to y.
-fn below_k(f: Frame, x: u16, y: u16) -> After
-    ensures { λ r. ⌜ r ≡ belowKTo x y f ⌝ }
-{
-    let k = f.k.0;
-    if k == 0 {
-        go(f, x)
-    } else {
-        go(with_k(f, Level(k - 1)), y)
-    }
-}
-
-fn below_m(f: Frame, x: u16, y: u16) -> After
-    ensures { λ r. ⌜ r ≡ belowMTo x y f ⌝ }
-{
-    let m = f.m.0;
-    if m == 0 {
-        go(f, x)
-    } else {
-        go(with_m(f, Level(m - 1)), y)
-    }
-}
-
-// To x if v is 0, else c becomes v and stay.
-fn walk_on(f: Frame, x: u16, v: u16) -> After
-    ensures { λ r. ⌜ r ≡ walkTo x v f ⌝ }
-{
-    if v == 0 {
-        go(f, x)
-    } else {
-        After::Go(with_c(f, v))
-    }
-}
-
-// A word's value, or Stray where it is not one of the table's.
-pub enum Loaded {
-    Value(u16),
-    Stray,
+// An access as it was tried: the value that it loaded or stored, and whether its word is there, one of the table's.
+struct Access {
+    value: u16,
+    there: bool,
 }
 
 // What follows an access, or Stray where its word is not one of the table's.
@@ -316,46 +192,108 @@ pub enum Turned {
     Stray,
 }
 
-fn load(t: &[u16], s: Sizes, w: Word) -> Loaded
+// What a case says after its access: stay, go, below k, below m, or the operation's end.
+impl Access {
+    // The one place where an access to a word that is not there is refused.
+    fn then(self, next: After) -> Turned
+        ensures { λ r. ⌜ r ≡ follows self next ⌝ }
+    {
+        if self.there {
+            Turned::Next(next)
+        } else {
+            Turned::Stray
+        }
+    }
+
+    // Stay at the point.
+    fn stay(self, f: Frame) -> Turned
+        ensures { λ r. ⌜ r ≡ follows self (Go f) ⌝ }
+    {
+        self.then(After::Go(apart(f)))
+    }
+
+    // Go to the point x.
+    fn go(self, mut f: Frame, x: u16) -> Turned
+        ensures { λ r. ⌜ r ≡ follows self (goTo x f) ⌝ }
+    {
+        f.point = x;
+        self.stay(f)
+    }
+
+    // Below k: if k is 0 go to x, else take 1 from k and go to y.
+    fn below_k(self, mut f: Frame, x: u16, y: u16) -> Turned
+        ensures { λ r. ⌜ r ≡ follows self (belowKTo x y f) ⌝ }
+    {
+        let k = f.k.0;
+        if k == 0 {
+            self.go(f, x)
+        } else {
+            let below = Level(k - 1);
+            f.k = below;
+            self.go(f, y)
+        }
+    }
+
+    // Below m: if m is 0 go to x, else take 1 from m and go to y.
+    fn below_m(self, mut f: Frame, x: u16, y: u16) -> Turned
+        ensures { λ r. ⌜ r ≡ follows self (belowMTo x y f) ⌝ }
+    {
+        let m = f.m.0;
+        if m == 0 {
+            self.go(f, x)
+        } else {
+            let below = Level(m - 1);
+            f.m = below;
+            self.go(f, y)
+        }
+    }
+
+    // The operation ends with node n, 0 for empty.
+    fn ends(self, n: Node) -> Turned
+        ensures { λ r. ⌜ r ≡ follows self (Done n) ⌝ }
+    {
+        self.then(After::Done(n))
+    }
+}
+
+fn load(t: &[u16], s: Sizes, w: Word) -> Access
     requires { ⌜ Fits s (now t) ⌝ }
     ensures { λ r. ⌜ r ≡ loaded s (now (t .entry)) w ⌝ }
 {
     if words::has_word(s, w) {
-        Loaded::Value(words::load(t, s, w))
+        Access {
+            value: words::load(t, s, w),
+            there: true,
+        }
     } else {
-        Loaded::Stray
+        Access {
+            value: 0,
+            there: false,
+        }
     }
 }
 
-fn store(t: &mut [u16], s: Sizes, w: Word, v: u16, next: After) -> Turned
+fn store(t: &mut [u16], s: Sizes, w: Word, v: u16) -> Access
     requires { ⌜ Fits s (now t) ⌝ }
-    ensures { λ r. ⌜ turned s (now (t .entry)) (stores w v next) ≡ (r, now (t .exit)) ⌝ }
+    ensures { λ r. ⌜ stored s (now (t .entry)) w v ≡ (r, now (t .exit)) ⌝ }
 {
     if words::has_word(s, w) {
         words::store(t, s, w, v);
-        Turned::Next(next)
+        Access {
+            value: v,
+            there: true,
+        }
     } else {
-        Turned::Stray
+        Access {
+            value: v,
+            there: false,
+        }
     }
 }
 
-// The node's next and use become 0.
-fn free(t: &mut [u16], s: Sizes, n: Node, next: After) -> Turned
-    requires { ⌜ Fits s (now t) ⌝ }
-    ensures { λ r. ⌜ turned s (now (t .entry)) (frees n next) ≡ (r, now (t .exit)) ⌝ }
-{
-    if words::has_word(s, Word::Next(n)) {
-        words::store(t, s, Word::Next(n), 0);
-        words::store(t, s, Word::Use(n), 0);
-        Turned::Next(next)
-    } else {
-        Turned::Stray
-    }
-}
-
-// The step table: the one access of the frame's point, and what follows it. The frame is held beside the table.
-// These are the points from E1 on: an enqueue enters, and where it can, it appends.
-pub fn turn(t: &mut [u16], s: Sizes, l: Level, top: Level, f: Frame) -> Turned
+// The step table: a case for each point, in document 01's order, with its one access, its tests and its next points. The frame is held
+// beside the table: q and n are its queue and node, k to m its words of these names. x is a load, with what it loaded as x.value.
+pub fn turn(t: &mut [u16], s: Sizes, l: Level, top: Level, mut f: Frame) -> Turned
     requires { ⌜ Fits s (now t) ⌝ }
     ensures { λ r. ⌜ turned s (now (t .entry)) (row (pointOf (f .point)) f l top) ≡ (r, now (t .exit)) ⌝ }
 {
@@ -365,199 +303,217 @@ pub fn turn(t: &mut [u16], s: Sizes, l: Level, top: Level, f: Frame) -> Turned
     let k = f.k;
     let p = f.p;
     let c = f.c;
-    match point {
-        Point::E1 => store(t, s, Word::LevelNode(l), n.0, go(f, Point::E2)),
-        Point::E2 => store(
-            t,
-            s,
-            Word::LevelQueue(l),
-            q.0,
-            below_k(with_k(f, l), Point::E7, Point::E3),
-        ),
-        Point::E3 => match load(t, s, Word::LevelQueue(k)) {
-            Loaded::Value(x) => {
-                if x == q.0 {
-                    Turned::Next(go(f, Point::E4))
-                } else {
-                    Turned::Next(below_k(f, Point::E7, Point::E3))
-                }
-            }
-            Loaded::Stray => Turned::Stray,
-        },
-        Point::E4 => match load(t, s, Word::LevelNode(k)) {
-            Loaded::Value(x) => Turned::Next(go(with_p(f, x), Point::E5)),
-            Loaded::Stray => Turned::Stray,
-        },
-        Point::E5 => match load(t, s, Word::Tail(q)) {
-            Loaded::Value(x) => {
-                if x == p.0 {
-                    Turned::Next(go(f, Point::E6))
-                } else {
-                    Turned::Next(below_m(with_m(f, k), Point::E15, Point::E13))
-                }
-            }
-            Loaded::Stray => Turned::Stray,
-        },
-        Point::E6 => store(
-            t,
-            s,
-            Word::LevelQueue(k),
-            0,
-            below_k(f, Point::E7, Point::E3),
-        ),
-        Point::E7 => match load(t, s, Word::Tail(q)) {
-            Loaded::Value(x) => Turned::Next(go(with_c(f, x), Point::E8)),
-            Loaded::Stray => Turned::Stray,
-        },
-        Point::E8 => match load(t, s, Word::Next(c)) {
-            Loaded::Value(x) => Turned::Next(walk_on(f, Point::E9, x)),
-            Loaded::Stray => Turned::Stray,
-        },
-        Point::E9 => store(t, s, Word::Next(c), n.0, go(with_c(f, n.0), Point::E10)),
-        Point::E10 => match load(t, s, Word::Next(c)) {
-            Loaded::Value(x) => Turned::Next(walk_on(f, Point::E11, x)),
-            Loaded::Stray => Turned::Stray,
-        },
-        Point::E11 => store(t, s, Word::LevelNode(l), c.0, go(f, Point::E12)),
-        Point::E12 => store(t, s, Word::Tail(q), c.0, go(f, Point::E28)),
-        _ => turn_insert(t, s, l, top, f),
-    }
-}
-
-// The step table from E13 on: an enqueue looks for its place in a chain, and takes it.
-fn turn_insert(t: &mut [u16], s: Sizes, l: Level, top: Level, f: Frame) -> Turned
-    requires { ⌜ Fits s (now t) ⌝ }
-    requires { ⌜ pointIn entering (f .point) ≡ Unknown ⌝ }
-    ensures { λ r. ⌜ turned s (now (t .entry)) (row (pointOf (f .point)) f l top) ≡ (r, now (t .exit)) ⌝ }
-{
-    let point = f.point;
-    let q = f.queue;
-    let n = f.node;
-    let p = f.p;
-    let c = f.c;
     let a = f.a;
     let r = f.r;
     let m = f.m;
     match point {
-        Point::E13 => match load(t, s, Word::LevelQueue(m)) {
-            Loaded::Value(x) => {
-                if x == q.0 {
-                    Turned::Next(go(f, Point::E14))
-                } else {
-                    Turned::Next(below_m(f, Point::E15, Point::E13))
-                }
+        // V: show the node and the queue at this level; look at the levels below that are at work on the queue
+        Point::E1 => store(t, s, Word::LevelNode(l), n.0).go(f, Point::E2),
+        Point::E2 => {
+            let made = store(t, s, Word::LevelQueue(l), q.0);
+            f.k = l;
+            made.below_k(f, Point::E7, Point::E3)
+        }
+        Point::E3 => {
+            let x = load(t, s, Word::LevelQueue(k));
+            if x.value == q.0 {
+                x.go(f, Point::E4)
+            } else {
+                x.below_k(f, Point::E7, Point::E3)
             }
-            Loaded::Stray => Turned::Stray,
-        },
-        Point::E14 => match load(t, s, Word::LevelNode(m)) {
-            Loaded::Value(x) => {
-                if x == 0 {
-                    Turned::Next(below_m(with_c(f, x), Point::E15, Point::E13))
-                } else {
-                    Turned::Next(go(with_c(f, x), Point::E16))
-                }
+        }
+        Point::E4 => {
+            let x = load(t, s, Word::LevelNode(k));
+            f.p.0 = x.value;
+            x.go(f, Point::E5)
+        }
+        Point::E5 => {
+            let x = load(t, s, Word::Tail(q));
+            if x.value == p.0 {
+                x.go(f, Point::E6)
+            } else {
+                f.m = k;
+                x.below_m(f, Point::E15, Point::E13)
             }
-            Loaded::Stray => Turned::Stray,
-        },
-        Point::E15 => match load(t, s, Word::Tail(q)) {
-            Loaded::Value(x) => Turned::Next(go(with_m(with_c(f, x), top), Point::E16)),
-            Loaded::Stray => Turned::Stray,
-        },
-        Point::E16 => match load(t, s, Word::Next(c)) {
-            Loaded::Value(x) => {
-                if x == p.0 {
-                    Turned::Next(go(with_a(f, c.0), Point::E21))
-                } else if x != 0 {
-                    Turned::Next(After::Go(with_c(f, x)))
-                } else if m.0 == top.0 {
-                    Turned::Next(go(f, Point::E17))
-                } else {
-                    Turned::Next(below_m(f, Point::E15, Point::E13))
-                }
+        }
+        Point::E6 => store(t, s, Word::LevelQueue(k), 0).below_k(f, Point::E7, Point::E3),
+        // none is left: follow the tail, link the node behind it, follow the node, move the tail
+        Point::E7 => {
+            let x = load(t, s, Word::Tail(q));
+            f.c.0 = x.value;
+            x.go(f, Point::E8)
+        }
+        Point::E8 => {
+            let x = load(t, s, Word::Next(c));
+            if x.value != 0 {
+                f.c.0 = x.value;
+                x.stay(f)
+            } else {
+                x.go(f, Point::E9)
             }
-            Loaded::Stray => Turned::Stray,
-        },
-        Point::E17 => match load(t, s, Word::Next(p)) {
-            Loaded::Value(x) => Turned::Next(go(with_r(f, x), Point::E18)),
-            Loaded::Stray => Turned::Stray,
-        },
-        Point::E18 => store(t, s, Word::Next(p), n.0, go(with_c(f, n.0), Point::E19)),
-        Point::E19 => match load(t, s, Word::Next(c)) {
-            Loaded::Value(x) => Turned::Next(walk_on(f, Point::E20, x)),
-            Loaded::Stray => Turned::Stray,
-        },
-        Point::E20 => store(t, s, Word::Next(c), r.0, go(f, Point::E28)),
-        Point::E21 => match load(t, s, Word::Next(a)) {
-            Loaded::Value(x) => Turned::Next(go(with_r(f, x), Point::E22)),
-            Loaded::Stray => Turned::Stray,
-        },
-        Point::E22 => store(t, s, Word::Next(a), n.0, go(with_c(f, n.0), Point::E23)),
-        Point::E23 => match load(t, s, Word::Next(c)) {
-            Loaded::Value(x) => Turned::Next(walk_on(f, Point::E24, x)),
-            Loaded::Stray => Turned::Stray,
-        },
-        Point::E24 => store(t, s, Word::Next(c), r.0, go(f, Point::E25)),
-        _ => turn_out(t, s, l, top, f),
-    }
-}
-
-// The step table from E25 on: an enqueue leaves, and a dequeue.
-fn turn_out(t: &mut [u16], s: Sizes, l: Level, top: Level, f: Frame) -> Turned
-    requires { ⌜ Fits s (now t) ⌝ }
-    requires { ⌜ pointIn (entering ++ inserting) (f .point) ≡ Unknown ⌝ }
-    ensures { λ r. ⌜ turned s (now (t .entry)) (row (pointOf (f .point)) f l top) ≡ (r, now (t .exit)) ⌝ }
-{
-    let point = f.point;
-    let q = f.queue;
-    let c = f.c;
-    let a = f.a;
-    let r = f.r;
-    match point {
-        Point::E25 => match load(t, s, Word::Tail(q)) {
-            Loaded::Value(x) => Turned::Next(go_if_same(f, x, a.0, Point::E26, Point::E28)),
-            Loaded::Stray => Turned::Stray,
-        },
-        Point::E26 => store(t, s, Word::LevelNode(l), c.0, go(f, Point::E27)),
-        Point::E27 => store(t, s, Word::Tail(q), c.0, go(f, Point::E28)),
-        Point::E28 => store(t, s, Word::LevelQueue(l), 0, go(f, Point::E29)),
-        Point::E29 => store(t, s, Word::LevelNode(l), 0, end_or_go(f, Point::D1)),
-        Point::D1 => match load(t, s, Word::Head(q)) {
-            Loaded::Value(x) => Turned::Next(go(with_c(f, x), Point::D2)),
-            Loaded::Stray => Turned::Stray,
-        },
-        Point::D2 => match load(t, s, Word::Tail(q)) {
-            Loaded::Value(x) => {
-                if x == c.0 {
-                    Turned::Next(After::Done(Node(0)))
-                } else {
-                    Turned::Next(go(f, Point::D3))
-                }
+        }
+        Point::E9 => {
+            let made = store(t, s, Word::Next(c), n.0);
+            f.c = n;
+            made.go(f, Point::E10)
+        }
+        Point::E10 => {
+            let x = load(t, s, Word::Next(c));
+            if x.value != 0 {
+                f.c.0 = x.value;
+                x.stay(f)
+            } else {
+                x.go(f, Point::E11)
             }
-            Loaded::Stray => Turned::Stray,
-        },
-        Point::D3 => match load(t, s, Word::Next(c)) {
-            Loaded::Value(x) => {
-                if x == 0 {
-                    Turned::Next(After::Done(Node(0)))
-                } else {
-                    Turned::Next(go(f, Point::D4))
-                }
+        }
+        Point::E11 => store(t, s, Word::LevelNode(l), c.0).go(f, Point::E12),
+        Point::E12 => store(t, s, Word::Tail(q), c.0).go(f, Point::E28),
+        // find_anchor: the node before p, first along the chains of the levels below, then along the tail's
+        Point::E13 => {
+            let x = load(t, s, Word::LevelQueue(m));
+            if x.value == q.0 {
+                x.go(f, Point::E14)
+            } else {
+                x.below_m(f, Point::E15, Point::E13)
             }
-            Loaded::Stray => Turned::Stray,
-        },
-        Point::D4 => match load(t, s, Word::Next(c)) {
-            Loaded::Value(x) => Turned::Next(go(with_r(f, x), Point::D5)),
-            Loaded::Stray => Turned::Stray,
-        },
-        Point::D5 => store(
-            t,
-            s,
-            Word::Head(q),
-            r.0,
-            go_if_same(f, c.0, q.0, Point::D6, Point::D7),
-        ),
-        Point::D6 => store(t, s, Word::Next(c), 0, go(with_n(f, q.0), Point::E1)),
-        Point::D7 => free(t, s, c, After::Done(c)),
+        }
+        Point::E14 => {
+            let x = load(t, s, Word::LevelNode(m));
+            f.c.0 = x.value;
+            if x.value == 0 {
+                x.below_m(f, Point::E15, Point::E13)
+            } else {
+                x.go(f, Point::E16)
+            }
+        }
+        Point::E15 => {
+            let x = load(t, s, Word::Tail(q));
+            f.c.0 = x.value;
+            f.m = top;
+            x.go(f, Point::E16)
+        }
+        Point::E16 => {
+            let x = load(t, s, Word::Next(c));
+            if x.value == p.0 {
+                f.a = c;
+                x.go(f, Point::E21)
+            } else if x.value != 0 {
+                f.c.0 = x.value;
+                x.stay(f)
+            } else if m.0 == top.0 {
+                x.go(f, Point::E17)
+            } else {
+                x.below_m(f, Point::E15, Point::E13)
+            }
+        }
+        // no anchor, stalled: the node goes behind p, and what was there behind the node's chain
+        Point::E17 => {
+            let x = load(t, s, Word::Next(p));
+            f.r.0 = x.value;
+            x.go(f, Point::E18)
+        }
+        Point::E18 => {
+            let made = store(t, s, Word::Next(p), n.0);
+            f.c = n;
+            made.go(f, Point::E19)
+        }
+        Point::E19 => {
+            let x = load(t, s, Word::Next(c));
+            if x.value != 0 {
+                f.c.0 = x.value;
+                x.stay(f)
+            } else {
+                x.go(f, Point::E20)
+            }
+        }
+        Point::E20 => store(t, s, Word::Next(c), r.0).go(f, Point::E28),
+        // an anchor: the node goes behind it, and what was there behind the node's chain; the tail moves if it was the anchor
+        Point::E21 => {
+            let x = load(t, s, Word::Next(a));
+            f.r.0 = x.value;
+            x.go(f, Point::E22)
+        }
+        Point::E22 => {
+            let made = store(t, s, Word::Next(a), n.0);
+            f.c = n;
+            made.go(f, Point::E23)
+        }
+        Point::E23 => {
+            let x = load(t, s, Word::Next(c));
+            if x.value != 0 {
+                f.c.0 = x.value;
+                x.stay(f)
+            } else {
+                x.go(f, Point::E24)
+            }
+        }
+        Point::E24 => store(t, s, Word::Next(c), r.0).go(f, Point::E25),
+        Point::E25 => {
+            let x = load(t, s, Word::Tail(q));
+            if x.value == a.0 {
+                x.go(f, Point::E26)
+            } else {
+                x.go(f, Point::E28)
+            }
+        }
+        Point::E26 => store(t, s, Word::LevelNode(l), c.0).go(f, Point::E27),
+        Point::E27 => store(t, s, Word::Tail(q), c.0).go(f, Point::E28),
+        // the level is done
+        Point::E28 => store(t, s, Word::LevelQueue(l), 0).go(f, Point::E29),
+        Point::E29 => {
+            let made = store(t, s, Word::LevelNode(l), 0);
+            if f.op == 1 {
+                made.ends(n)
+            } else {
+                made.go(f, Point::D1)
+            }
+        }
+        // P: take the head out of the queue; the sentinel is handed in again, from E1 on
+        Point::D1 => {
+            let x = load(t, s, Word::Head(q));
+            f.c.0 = x.value;
+            x.go(f, Point::D2)
+        }
+        Point::D2 => {
+            let x = load(t, s, Word::Tail(q));
+            if x.value == c.0 {
+                x.ends(Node(0))
+            } else {
+                x.go(f, Point::D3)
+            }
+        }
+        Point::D3 => {
+            let x = load(t, s, Word::Next(c));
+            if x.value == 0 {
+                x.ends(Node(0))
+            } else {
+                x.go(f, Point::D4)
+            }
+        }
+        Point::D4 => {
+            let x = load(t, s, Word::Next(c));
+            f.r.0 = x.value;
+            x.go(f, Point::D5)
+        }
+        Point::D5 => {
+            let made = store(t, s, Word::Head(q), r.0);
+            if c.0 == q.0 {
+                made.go(f, Point::D6)
+            } else {
+                made.go(f, Point::D7)
+            }
+        }
+        Point::D6 => {
+            let made = store(t, s, Word::Next(c), 0);
+            f.node.0 = q.0;
+            made.go(f, Point::E1)
+        }
+        Point::D7 => {
+            let made = store(t, s, Word::Next(c), 0);
+            // the bench's own word, which rides on this step
+            store(t, s, Word::Use(c), 0);
+            made.ends(c)
+        }
         _ => Turned::Stray,
     }
 }
