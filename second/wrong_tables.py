@@ -326,6 +326,32 @@ def last_store(t, l, f):  # E28's store as the last one
     return f.n if f.op == 1 else "D1"
 
 
+def tests_then_loads(point, then):
+    """A walk that loads next[c] to test it and, as a step of its own, once more to go there: the paper's two reads."""
+    def test(t, l, f):
+        return then if t.load(f.c) == 0 else point + "-again"
+
+    def again(t, l, f):
+        f.c = t.load(f.c)
+        return point
+    return {point: test, point + "-again": again}
+
+
+def compares(t, l, f):  # for E16, whose second read is E16-again
+    if t.load(f.c) != f.p:
+        return "E16-again"
+    f.a = f.c
+    return "E21"
+
+
+def goes_on(t, l, f):  # E16-again
+    x = t.load(f.c)
+    if x != 0:
+        f.c = x
+        return "E16"
+    return "E17" if f.m == t.L else below(f, "m", "E15", "E13")
+
+
 def queue_first(t, l, f):  # for E1
     t.LQ[l] = f.q
     return "E2"
@@ -362,6 +388,9 @@ WRONG = {
     "E11-E12": ("E11 and E12 swapped: tail moved before the mark", {"E11": going(E12, "E12"), "E12": going(E11, "E28")}),
     "E11-store": ("E11's and E26's stores left out: the mark stays at n", {"E10": lambda t, l, f: walk(t, f, "E12"),
                   "E25": lambda t, l, f: "E27" if t.tail[f.q] == f.a else "E28"}),
+    "two-reads": ("E8, E10, E16, E19 and E23 read next[c] twice, as the paper writes it",
+                  {**tests_then_loads("E8", "E9"), **tests_then_loads("E10", "E11"), "E16": compares, "E16-again": goes_on,
+                   **tests_then_loads("E19", "E20"), **tests_then_loads("E23", "E24")}),
     "D6-next": ("D6 does not clear next", {"D6": hands_in_as_it_is}),
     "D7-next": ("D7 does not clear next", {"D7": keeps_next}),
 }  # fmt: skip
