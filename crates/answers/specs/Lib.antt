@@ -1,2 +1,3 @@
 pub mod Said
 pub mod Once
+pub mod Most
