@@ -200,7 +200,7 @@ module _ (B : Begun) where
               ap (λ (F : ℕ → Frame). F (l .0)) (a .bridged .frames-are) ∙ ap (put (frames s x) i (frameAfter follows)) (sym mine)
               ∙ put-same (frames s x) i (frameAfter follows) ∙ ap frameAfter d
 
-          kept : (g .op ≡ f .op) × (g .queue ≡ f .queue)
+          kept : (g .op ≡ f .op) × (g .queue ≡ f .queue) × (g .steps ≡ counted f .steps)
           kept = goes-on (memory s x) (s .levels) i f g d
 
       -- it ends, with node n

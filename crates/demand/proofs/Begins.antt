@@ -31,7 +31,7 @@ use Rattle.state.proofs.Seen.{look-rd, frame-is, frame-idle, memory-wr, frames-
 use Rattle.state.specs.Queues.{own}
 use Rattle.invariant.proofs.Own.{own-begun}
 use Rattle.demand.proofs.Apart.{own-put}
-use Rattle.demand.proofs.World.{World, IdleFrom, enqueueBegun, world-enqueue, world-dequeue}
+use Rattle.demand.proofs.World.{World, IdleFrom, enqueueBegun, dequeueBegun, world-enqueue, world-dequeue}
 use Rattle.demand.proofs.Keeps.{Keeps}
 
 -- ---- conditions that do not hold
@@ -78,8 +78,9 @@ pub record CanEnqueue (s : Sizes) (t : List ℕ) (l : Level) (q : Queue) (n : No
   pub user : s .queues < n .0
   pub node-known : n .0 ≤ s .nodes
   pub idle : IdleFrom (l .0) (stateOf s t)
-  pub unused : rd s t (Use n) ≡ 0
+  pub unused : memory s t .uses (n .0) ≡ 0
   pub table : u ≡ wr s (putFrame s t l (begun 1 E1 q n)) (Use n) (q .0)
+  pub mem-is : memory s u ≡ upd (memory s t) (Use n) (q .0)
   pub frames-are : frames s u ≡ put (frames s t) (l .0) (begun 1 E1 q n)
 
 pub record CanDequeue (s : Sizes) (t : List ℕ) (l : Level) (q : Queue) (u : List ℕ) : Type 0 where
@@ -89,6 +90,7 @@ pub record CanDequeue (s : Sizes) (t : List ℕ) (l : Level) (q : Queue) (u : Li
   pub idle : IdleFrom (l .0) (stateOf s t)
   pub only : (j : ℕ) → frames s t j .op ≡ 2 → frames s t j .queue .0 ≢ q .0
   pub table : u ≡ putFrame s t l (begun 2 D1 q (node 0))
+  pub mem-is : memory s u ≡ memory s t
   pub frames-are : frames s u ≡ put (frames s t) (l .0) (begun 2 D1 q (node 0))
 
 module _ (s : Sizes) (t : List ℕ) (m : measured t ≡ Sized s) (l : Level) where
@@ -128,8 +130,12 @@ module _ (s : Sizes) (t : List ℕ) (m : measured t ≡ Sized s) (l : Level) whe
         user = omega (arith, above);
         node-known = real;
         idle = not-busy (c .idle) (c .has-l);
-        unused = eqb-true (rd s t (Use n)) 0 (not-false (eqb (rd s t (Use n)) 0) (c .free));
+        unused = look-rd s t (Use n) here ∙ eqb-true (rd s t (Use n)) 0 (not-false (eqb (rd s t (Use n)) 0) (c .free));
         table = sym (a .1);
+        mem-is =
+            rw (← (a .1))
+            (memory-wr s (putFrame s t l g) room (Use n) here (q .0)
+            ∙ ap (λ (M : Mem). upd M (Use n) (q .0)) (memory-put s t (measured-fits t s m .room) l g));
         frames-are =
             rw (← (a .1))
             (frames-wr s (putFrame s t l g) room (Use n) here (q .0) ∙ frames-put s t (measured-fits t s m .room) l (c .has-l) g);
@@ -148,90 +154,68 @@ module _ (s : Sizes) (t : List ℕ) (m : measured t ≡ Sized s) (l : Level) whe
         idle = not-busy (c .idle) (c .has-l);
         only = not-dequeued q (c .alone) (c .has-l) (not-busy (c .idle) (c .has-l));
         table = sym (a .1);
+        mem-is = rw (← (a .1)) (memory-put s t (measured-fits t s m .room) l (begun 2 D1 q (node 0)));
         frames-are = rw (← (a .1)) (frames-put s t (measured-fits t s m .room) l (c .has-l) (begun 2 D1 q (node 0)));
       }
 
 -- ---- what it keeps
 
-module _ (s : Sizes) (t : List ℕ) (fronts : ℕ → List ℕ) (m : measured t ≡ Sized s) (w : World s (stateOf s t) fronts) (l : Level) where
-  put-state : (g : Frame) → l .0 < s .levels → stateOf s (putFrame s t l g) ≡ record { mem = memory s t; frames = put (frames s t) (l .0) g }
-  put-state g low =
-      let room = measured-fits t s m .room in
-      λ i. record { mem = memory-put s t room l g i; frames = frames-put s t room l low g i }
+module _ (s : Sizes) (t : List ℕ) (l : Level) (q : Queue) (u : List ℕ) where
+  pub enqueue-state : (n : Node) → CanEnqueue s t l q n u → stateOf s u ≡ enqueueBegun (stateOf s t) (l .0) (q .0) (n .0)
+  enqueue-state n c = λ i. record { mem = c .mem-is i; frames = c .frames-are i }
 
+  pub dequeue-state : CanDequeue s t l q u → stateOf s u ≡ dequeueBegun (stateOf s t) (l .0) (q .0)
+  dequeue-state c = λ i. record { mem = c .mem-is i; frames = c .frames-are i }
+
+module _ (s : Sizes) (t : List ℕ) (fronts : ℕ → List ℕ) (m : measured t ≡ Sized s) (w : World s (stateOf s t) fronts) (l : Level) where
   pub dequeue-kept : (q : Queue) (u : List ℕ) → dequeueOf t l q ≡ (says tt, u) → Keeps s t fronts (λ r. []) (λ r. []) u
-  dequeue-kept q u h = rw (c .table) given
+  dequeue-kept q u h =
+      record {
+        sized = rw (c .table) (measured-put s t l (begun 2 D1 q (node 0)) m);
+        fronts′ = fronts;
+        world =
+            rw (dequeue-state s t l q u c)
+            (world-dequeue s (stateOf s t) fronts w (l .0) (q .0) (c .low) (c .idle) (c .some-queue) (c .queue-known) (c .only));
+        begins = λ r. begins-same (fronts r);
+        balance = λ r some n. rw (c .mem-is);
+      }
     where
       c : CanDequeue s t l q u
       c = can-dequeue s t m l q u h
 
-      g : Frame
-      g = begun 2 D1 q (node 0)
-
-      given : Keeps s t fronts (λ r. []) (λ r. []) (putFrame s t l g)
-      given =
-          record {
-            sized = measured-put s t l g m;
-            fronts′ = fronts;
-            world =
-                rw (put-state g (c .low))
-                (world-dequeue s (stateOf s t) fronts w (l .0) (q .0) (c .low) (c .idle) (c .some-queue) (c .queue-known) (c .only));
-            begins = λ r. begins-same (fronts r);
-            balance = λ r some n. rw (memory-put s t (measured-fits t s m .room) l g);
-          }
-
   pub enqueue-kept : (q : Queue) (n : Node) (u : List ℕ) → enqueueOf t l q n ≡ (says tt, u)
       → Keeps s t fronts (λ r. []) (λ r. cond (eqb (q .0) r) (n .0 ∷ []) []) u
   unfolding Bound
-  enqueue-kept q n u h = rw (c .table) given
+  enqueue-kept q n u h =
+      record {
+        sized = rw (c .table) (measured-wr s v (Use n) (q .0) (measured-put s t l (begun 1 E1 q n) m) here);
+        fronts′ = fronts;
+        world =
+            rw (enqueue-state s t l q u n c)
+            (world-enqueue s (stateOf s t) fronts w (l .0) (q .0) (c .low) (c .idle) (c .some-queue) (c .queue-known) (n .0) (c .user)
+            (c .node-known) (c .unused));
+        begins = λ r. begins-same (fronts r);
+        balance = balance;
+      }
     where
       c : CanEnqueue s t l q n u
       c = can-enqueue s t m l q n u h
 
-      g : Frame
-      g = begun 1 E1 q n
-
       v : List ℕ
-      v = putFrame s t l g
+      v = putFrame s t l (begun 1 E1 q n)
 
       here : has s (Use n) ≡ true
       here = has-is s (Use n) (omega (arith, c .user, c .node-known))
 
-      mv : measured v ≡ Sized s
-      mv = measured-put s t l g m
-
-      mem : memory s (wr s v (Use n) (q .0)) ≡ upd (memory s t) (Use n) (q .0)
-      mem =
-          memory-wr s v (measured-fits v s mv .room) (Use n) here (q .0)
-          ∙ ap (λ (M : Mem). upd M (Use n) (q .0)) (memory-put s t (measured-fits t s m .room) l g)
-
-      state : stateOf s (wr s v (Use n) (q .0)) ≡ enqueueBegun (stateOf s t) (l .0) (q .0) (n .0)
-      state =
-          let frames-are = rw (c .table) at (c .frames-are) in
-          λ i. record { mem = mem i; frames = frames-are i }
-
-      unused : memory s t .uses (n .0) ≡ 0
-      unused = look-rd s t (Use n) here ∙ c .unused
-
-      given : Keeps s t fronts (λ r. []) (λ r. cond (eqb (q .0) r) (n .0 ∷ []) []) (wr s v (Use n) (q .0))
-      given =
-          record {
-            sized = measured-wr s v (Use n) (q .0) mv here;
-            fronts′ = fronts;
-            world =
-                rw state
-                (world-enqueue s (stateOf s t) fronts w (l .0) (q .0) (c .low) (c .idle) (c .some-queue) (c .queue-known) (n .0) (c .user) (c .node-known) unused);
-            begins = λ r. begins-same (fronts r);
-            balance = balance;
-          }
+      balance : (r : ℕ) → 1 ≤ r → (y : ℕ) → own (s .queues) (memory s u .uses) r y + cnt y []
+          ≡ own (s .queues) (memory s t .uses) r y + cnt y (cond (eqb (q .0) r) (n .0 ∷ []) [])
+      balance r some y = rw (c .mem-is) (by (eqb (q .0) r) (same? (q .0) r))
         where
-          balance : (r : ℕ) → 1 ≤ r → (y : ℕ) → own (s .queues) (memory s (wr s v (Use n) (q .0)) .uses) r y + cnt y []
-              ≡ own (s .queues) (memory s t .uses) r y + cnt y (cond (eqb (q .0) r) (n .0 ∷ []) [])
-          balance r some y = rw mem (by (eqb (q .0) r) (same? (q .0) r))
-            where
-              by : (b : Bool) → Same (q .0) r b → own (s .queues) (put (memory s t .uses) (n .0) (q .0)) r y + cnt y []
-                  ≡ own (s .queues) (memory s t .uses) r y + cnt y (cond b (n .0 ∷ []) [])
-              by true (same e) =
-                  let o = own-begun (s .queues) (memory s t .uses) r (n .0) some (c .user) unused y in rw e (omega (arith, cnt-nil y))
-              by false (apart e) =
-                  let o = own-put (s .queues) (memory s t .uses) r (n .0) (q .0) (λ z. omega (arith, unused)) e y in simp counts (omega arith)
+          by : (b : Bool) → Same (q .0) r b → own (s .queues) (put (memory s t .uses) (n .0) (q .0)) r y + cnt y []
+              ≡ own (s .queues) (memory s t .uses) r y + cnt y (cond b (n .0 ∷ []) [])
+          by true (same e) =
+              let o = own-begun (s .queues) (memory s t .uses) r (n .0) some (c .user) (c .unused) y in rw e (omega (arith, cnt-nil y))
+          by false (apart e) =
+              let z = c .unused in
+              let o = own-put (s .queues) (memory s t .uses) r (n .0) (q .0) (λ y. omega (arith, z)) e y in
+              simp counts (omega arith)

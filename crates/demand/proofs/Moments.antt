@@ -24,6 +24,7 @@ use Rattle.asks.specs.Quiet.{quietMeasured, quietOf}
 use Rattle.asks.specs.Listing.{nodesFrom, nodesOf, listed, listingSized, listingMeasured, listingOf}
 use Rattle.lists.specs.Count.{Same, same, apart, same?, cnt, cnt-nil, cnt-self}
 use Rattle.lists.specs.Beginning.{without, cnt-without}
+use Rattle.lists.specs.Short.{once-short}
 use Rattle.chains.specs.Seg.{Seg, stop, link}
 use Rattle.state.specs.View.{memory, frames, stateOf}
 use Rattle.state.proofs.Seen.{look-rd, frame-is, frame-idle}
@@ -34,7 +35,7 @@ use Rattle.invariant.proofs.Rest.{quiet as at-rest}
 use Rattle.demand.proofs.World.{World}
 use Rattle.demand.proofs.Bridge.{other-number}
 use Rattle.demand.proofs.Begins.{none-of}
-use Rattle.demand.proofs.Quiet.{once-short, chain-is, along-is, first-is}
+use Rattle.demand.proofs.Quiet.{chain-is, along-is, first-is}
 use Rattle.demand.proofs.Alone.{First}
 use Rattle.demand.specs.History.{stillIn}
 use Rattle.demand.specs.Demand.{QuietAt, firstOf}

@@ -1,4 +1,4 @@
--- What every row of the step table has in common: it keeps the frame's op and queue; an enqueue ends with its own node;
+-- What every row of the step table has in common: it keeps the frame's op, queue and steps; an enqueue ends with its own node;
 -- a dequeue ends with a node only where it frees it, and else empty.
 use Prim.Native.Nat.{ℕ}
 use mathlib.Core.Path.{_≡_, refl, sym, ap, _∙_}
@@ -29,7 +29,7 @@ use Rattle.lists.specs.Count.{Same, same, apart, same?}
 
 -- what follows at the point p, for a frame f
 pub data Plain (p : Point) (f : Frame) : After → Type 0 where
-  goes : {g : Frame} → g .op ≡ f .op → g .queue ≡ f .queue → Plain p f (Go g)
+  goes : {g : Frame} → g .op ≡ f .op → g .queue ≡ f .queue → g .steps ≡ f .steps → Plain p f (Go g)
   empty : {n : Node} → (p ≡ point.D2) ⊎ (p ≡ point.D3) → n .0 ≡ 0 → Plain p f (Done n)
   handed : {n : Node} → f .op ≡ 1 → n ≡ f .node → Plain p f (Done n)
 
@@ -49,65 +49,67 @@ by-eq {p} {f} {a} {b} {x} {y} h k = by (eqb a b) (same? a b)
     by true (same e) = h e
     by false (apart e) = k
 
--- the branches of the step table over a frame g that has f's op and queue
-below-k : {p : Point} {f : Frame} (g : Frame) → g .op ≡ f .op → g .queue ≡ f .queue → (x y : ℕ) → Plain p f (belowKTo x y g)
+-- the branches of the step table over a frame g that has f's op, queue and steps
+below-k : {p : Point} {f : Frame} (g : Frame) → g .op ≡ f .op → g .queue ≡ f .queue → g .steps ≡ f .steps → (x y : ℕ)
+    → Plain p f (belowKTo x y g)
 unfolding belowKTo
-below-k g o q x y = by-eq (λ e. goes o q) (goes o q)
+below-k g o q n x y = by-eq (λ e. goes o q n) (goes o q n)
 
-below-m : {p : Point} {f : Frame} (g : Frame) → g .op ≡ f .op → g .queue ≡ f .queue → (x y : ℕ) → Plain p f (belowMTo x y g)
+below-m : {p : Point} {f : Frame} (g : Frame) → g .op ≡ f .op → g .queue ≡ f .queue → g .steps ≡ f .steps → (x y : ℕ)
+    → Plain p f (belowMTo x y g)
 unfolding belowMTo
-below-m g o q x y = by-eq (λ e. goes o q) (goes o q)
+below-m g o q n x y = by-eq (λ e. goes o q n) (goes o q n)
 
 walk-on : {p : Point} {f : Frame} (x v : ℕ) → Plain p f (walkTo x v f)
 unfolding walkTo
-walk-on x v = by-eq (λ e. goes refl refl) (goes refl refl)
+walk-on x v = by-eq (λ e. goes refl refl refl) (goes refl refl refl)
 
 by : (p : Point) (f : Frame) (a : After) → Plain p f a
     → (frameAfter a .op ≡ 0) ⊎ ((frameAfter a .op ≡ f .op) × (frameAfter a .queue ≡ f .queue))
-by p f a (goes o q) = inr (o, q)
+by p f a (goes o q n) = inr (o, q)
 by p f a (empty d e) = inl refl
 by p f a (handed o e) = inl refl
 
 pub row-plain : (p : Point) (f : Frame) (l top : Level) → Plainly p f (row p f l top)
 unfolding row
-row-plain point.E1 f l top = store (goes refl refl)
-row-plain point.E2 f l top = store (below-k _ refl refl 7 3)
-row-plain point.E3 f l top = load (λ x. by-eq (λ e. goes refl refl) (below-k _ refl refl 7 3))
-row-plain point.E4 f l top = load (λ x. goes refl refl)
-row-plain point.E5 f l top = load (λ x. by-eq (λ e. goes refl refl) (below-m _ refl refl 15 13))
-row-plain point.E6 f l top = store (below-k _ refl refl 7 3)
-row-plain point.E7 f l top = load (λ x. goes refl refl)
+row-plain point.E1 f l top = store (goes refl refl refl)
+row-plain point.E2 f l top = store (below-k _ refl refl refl 7 3)
+row-plain point.E3 f l top = load (λ x. by-eq (λ e. goes refl refl refl) (below-k _ refl refl refl 7 3))
+row-plain point.E4 f l top = load (λ x. goes refl refl refl)
+row-plain point.E5 f l top = load (λ x. by-eq (λ e. goes refl refl refl) (below-m _ refl refl refl 15 13))
+row-plain point.E6 f l top = store (below-k _ refl refl refl 7 3)
+row-plain point.E7 f l top = load (λ x. goes refl refl refl)
 row-plain point.E8 f l top = load (λ x. walk-on 9 x)
-row-plain point.E9 f l top = store (goes refl refl)
+row-plain point.E9 f l top = store (goes refl refl refl)
 row-plain point.E10 f l top = load (λ x. walk-on 11 x)
-row-plain point.E11 f l top = store (goes refl refl)
-row-plain point.E12 f l top = store (goes refl refl)
-row-plain point.E13 f l top = load (λ x. by-eq (λ e. goes refl refl) (below-m _ refl refl 15 13))
-row-plain point.E14 f l top = load (λ x. by-eq (λ e. below-m _ refl refl 15 13) (goes refl refl))
-row-plain point.E15 f l top = load (λ x. goes refl refl)
+row-plain point.E11 f l top = store (goes refl refl refl)
+row-plain point.E12 f l top = store (goes refl refl refl)
+row-plain point.E13 f l top = load (λ x. by-eq (λ e. goes refl refl refl) (below-m _ refl refl refl 15 13))
+row-plain point.E14 f l top = load (λ x. by-eq (λ e. below-m _ refl refl refl 15 13) (goes refl refl refl))
+row-plain point.E15 f l top = load (λ x. goes refl refl refl)
 row-plain point.E16 f l top =
     load
     (λ x.
-    by-eq (λ e. goes refl refl) (by-eq (λ e. by-eq (λ e. goes refl refl) (below-m _ refl refl 15 13)) (goes refl refl)))
-row-plain point.E17 f l top = load (λ x. goes refl refl)
-row-plain point.E18 f l top = store (goes refl refl)
+    by-eq (λ e. goes refl refl refl) (by-eq (λ e. by-eq (λ e. goes refl refl refl) (below-m _ refl refl refl 15 13)) (goes refl refl refl)))
+row-plain point.E17 f l top = load (λ x. goes refl refl refl)
+row-plain point.E18 f l top = store (goes refl refl refl)
 row-plain point.E19 f l top = load (λ x. walk-on 20 x)
-row-plain point.E20 f l top = store (goes refl refl)
-row-plain point.E21 f l top = load (λ x. goes refl refl)
-row-plain point.E22 f l top = store (goes refl refl)
+row-plain point.E20 f l top = store (goes refl refl refl)
+row-plain point.E21 f l top = load (λ x. goes refl refl refl)
+row-plain point.E22 f l top = store (goes refl refl refl)
 row-plain point.E23 f l top = load (λ x. walk-on 24 x)
-row-plain point.E24 f l top = store (goes refl refl)
-row-plain point.E25 f l top = load (λ x. by-eq (λ e. goes refl refl) (goes refl refl))
-row-plain point.E26 f l top = store (goes refl refl)
-row-plain point.E27 f l top = store (goes refl refl)
-row-plain point.E28 f l top = store (goes refl refl)
-row-plain point.E29 f l top = store (by-eq (λ e. handed e refl) (goes refl refl))
-row-plain point.D1 f l top = load (λ x. goes refl refl)
-row-plain point.D2 f l top = load (λ x. by-eq (λ e. empty (inl refl) refl) (goes refl refl))
-row-plain point.D3 f l top = load (λ x. by-eq (λ e. empty (inr refl) refl) (goes refl refl))
-row-plain point.D4 f l top = load (λ x. goes refl refl)
-row-plain point.D5 f l top = store (by-eq (λ e. goes refl refl) (goes refl refl))
-row-plain point.D6 f l top = store (goes refl refl)
+row-plain point.E24 f l top = store (goes refl refl refl)
+row-plain point.E25 f l top = load (λ x. by-eq (λ e. goes refl refl refl) (goes refl refl refl))
+row-plain point.E26 f l top = store (goes refl refl refl)
+row-plain point.E27 f l top = store (goes refl refl refl)
+row-plain point.E28 f l top = store (goes refl refl refl)
+row-plain point.E29 f l top = store (by-eq (λ e. handed e refl) (goes refl refl refl))
+row-plain point.D1 f l top = load (λ x. goes refl refl refl)
+row-plain point.D2 f l top = load (λ x. by-eq (λ e. empty (inl refl) refl) (goes refl refl refl))
+row-plain point.D3 f l top = load (λ x. by-eq (λ e. empty (inr refl) refl) (goes refl refl refl))
+row-plain point.D4 f l top = load (λ x. goes refl refl refl)
+row-plain point.D5 f l top = store (by-eq (λ e. goes refl refl refl) (goes refl refl refl))
+row-plain point.D6 f l top = store (goes refl refl refl)
 row-plain point.D7 f l top = free refl refl
 row-plain Unknown f l top = none
 
@@ -142,22 +144,26 @@ next-on q M levels l f o = by (next-frame M levels l f)
     by (inl e) = absurd (o .0 e)
     by (inr e) = ((λ z. o .0 (e .0 ∙ z)), sym (ap (λ (u : Queue). u .0) (e .1)) ∙ o .1)
 
--- a frame that goes on has its op and queue still
-plain-go : (p : Point) (f g : Frame) (a : After) → Plain p f a → a ≡ Go g → (g .op ≡ f .op) × (g .queue ≡ f .queue)
-plain-go p f g a (goes {g = h} o q) e = let z : h ≡ g = cc in (rw (← z) o, rw (← z) q)
+abbrev Still : Frame → Frame → Type 0
+Still f g = (g .op ≡ f .op) × (g .queue ≡ f .queue) × (g .steps ≡ f .steps)
+
+-- a frame that goes on has its op and queue still, and has counted the step
+plain-go : (p : Point) (f g : Frame) (a : After) → Plain p f a → a ≡ Go g → Still f g
+plain-go p f g a (goes {g = h} o q n) e = let z : h ≡ g = cc in (rw (← z) o, rw (← z) q, rw (← z) n)
 plain-go p f g a (empty d n) e = let z : _≡_ {A = ℕ} 0 1 = cc in absurd (omega arith)
 plain-go p f g a (handed o n) e = let z : _≡_ {A = ℕ} 0 1 = cc in absurd (omega arith)
 
-pub goes-on : (M : Mem) (levels l : ℕ) (f g : Frame) → then M (rowOf levels l f) (counted f) ≡ Go g → (g .op ≡ f .op) × (g .queue ≡ f .queue)
+pub goes-on : (M : Mem) (levels l : ℕ) (f g : Frame) → then M (rowOf levels l f) (counted f) ≡ Go g
+    → (g .op ≡ f .op) × (g .queue ≡ f .queue) × (g .steps ≡ counted f .steps)
 unfolding counted
 goes-on M levels l f g e =
     by (rowOf levels l f) (row-plain (pointOf (counted f .point)) (counted f) (level l) (level levels)) e
   where
-    by : (x : Row) → Plainly (pointOf (counted f .point)) (counted f) x → then M x (counted f) ≡ Go g → (g .op ≡ f .op) × (g .queue ≡ f .queue)
+    by : (x : Row) → Plainly (pointOf (counted f .point)) (counted f) x → then M x (counted f) ≡ Go g → Still (counted f) g
     by x (load {w = w} h) e = plain-go (pointOf (counted f .point)) (counted f) g _ (h (look M w)) e
     by x (store h) e = plain-go (pointOf (counted f .point)) (counted f) g _ h e
     by x (free d c) e = let z : _≡_ {A = ℕ} 0 1 = cc in absurd (omega arith)
-    by x none e = plain-go (pointOf (counted f .point)) (counted f) g _ (goes refl refl) e
+    by x none e = plain-go (pointOf (counted f .point)) (counted f) g _ (goes refl refl refl) e
 
 -- ---- the point of a number
 
@@ -190,7 +196,7 @@ d3-goes M levels l f p h =
 
 -- a dequeue ends empty at D2 and D3 alone
 plain-empty : (p : Point) (f : Frame) (a : After) (n : Node) → Plain p f a → a ≡ Done n → f .op ≡ 2 → (p ≡ point.D2) ⊎ (p ≡ point.D3)
-plain-empty p f a n (goes o q) e two = let z : _≡_ {A = ℕ} 0 1 = cc in absurd (omega arith)
+plain-empty p f a n (goes o q i) e two = let z : _≡_ {A = ℕ} 0 1 = cc in absurd (omega arith)
 plain-empty p f a n (empty d z) e two = d
 plain-empty p f a n (handed o z) e two = absurd (omega arith)
 

@@ -72,7 +72,7 @@ served s t (suc n) = by (eqb (op n) 0) (same? (op n) 0) (served s t n)
     by false (apart e) k = serves n (omega arith) e (λ j a b. absurd (omega arith))
 
 -- the highest level that runs is served
-serving-is : (s : Sizes) (t : List ℕ) (l n : ℕ) → l < n → frameOf s t (level l) .op ≢ 0
+pub serving-is : (s : Sizes) (t : List ℕ) (l n : ℕ) → l < n → frameOf s t (level l) .op ≢ 0
     → ((j : ℕ) → l < j → j < n → frameOf s t (level j) .op ≡ 0) → serving s t n ≡ At (level l)
 unfolding serving
 serving-is s t l zero low run top = absurd (omega arith)
@@ -132,7 +132,7 @@ module _ (l : Level) (M : Mem) (f : Frame) where
   returns-none r (Done n) h = other-queue r (endOf l f n) h
 
   plain-none : (r : ℕ) (p : Point) (a : After) → Plain p f a → returnedByStep r (saysOf l f a) ≡ []
-  plain-none r p a (goes o q) = refl
+  plain-none r p a (goes o q n) = refl
   plain-none r p a (empty {n = n} d e) = no-node r (endOf l f n) e
   plain-none r p a (handed {n = n} o e) = no-dequeue r (endOf l f n) o
 
@@ -182,13 +182,15 @@ module _ (s : Sizes) (q : ℕ) (S : State) (some : 1 ≤ q) (y : ℕ) where
       own-put (s .queues) (S .mem .uses) q (n .0) 0 (λ e. ne (sym e ∙ own-use (s .queues) (S .mem .uses) r (n .0) low o))
       (λ e. omega arith) y
 
--- a step that serves the frame at level l, and says x
+-- a step that serves the frame at level l, the highest that runs, and says x
 pub record StepAt (s : Sizes) (t : List ℕ) (fronts : ℕ → List ℕ) (l : ℕ) (x : Step) : Type 0 where
   pub table : List ℕ
   pub is : stepSized s t ≡ (says x, table)
   pub bridged : Bridged s t table l (counted (frames s t l)) (rowOf (s .levels) l (frames s t l))
   pub keeps : Keeps s t fronts (λ q. returnedByStep q x) (λ q. []) table
+  pub low : l < s .levels
   pub runs : frames s t l .op ≢ 0
+  pub highest : (j : ℕ) → l < j → frames s t j .op ≡ 0
   pub moving : Moving s (stateOf s t) fronts l (frames s t l .queue .0)
   pub said : x ≡ saysOf (level l) (counted (frames s t l)) (then (memory s t) (rowOf (s .levels) l (frames s t l)) (counted (frames s t l)))
 
@@ -282,7 +284,9 @@ module _ (s : Sizes) (t : List ℕ) (fronts : ℕ → List ℕ) (m : measured t 
               (ap (λ (g : Frame). stepFrame s t (level l) (counted g)) e ∙ rw (sound-is s f (k .op) (k .point) somewhere) (done .1));
           bridged = done .2;
           keeps = took-from (done .0) (done .2);
+          low = low;
           runs = running .0;
+          highest = λ j h. frame-idle s t j (top j h);
           moving = k;
           said = refl;
         }

@@ -6,15 +6,14 @@ use mathlib.Core.List.{List, [], _∷_, _++_, append-assoc}
 use native.Mathlib.Omega.{arith}
 use lib.Dec.{eqb}
 use borrow.Author.Tests.{ne-eqb, lt-ltb}
-use lib.ListN.{length}
 use Rattle.words.specs.declared.Queue.{Queue}
 use Rattle.words.specs.declared.Sizes.{Sizes}
 use Rattle.words.specs.declared.Measured.the-variants.{Sized}
 use Rattle.words.specs.declared.Frame.{Frame}
 use Rattle.words.specs.declared.Node.{Node}
 use Rattle.words.specs.declared.Word.the-variants.{Head, Use}
-use Rattle.words.specs.Layout.{node, words, measured, has, rd}
-use Rattle.words.specs.Laws.{Bound, bound, measured-fits}
+use Rattle.words.specs.Layout.{node, measured, has, rd}
+use Rattle.words.specs.Laws.{Bound, bound}
 use Rattle.table.specs.Points.{D1}
 use Rattle.begins.specs.Begin.{begun}
 use Rattle.steps.specs.Run.{runFrom}
@@ -24,7 +23,7 @@ use Rattle.lists.specs.Count.{Same, same, apart, same?, hit, cnt, counts}
 use Rattle.lists.specs.Beginning.{begins-after}
 use Rattle.state.specs.Mem.{put-same, put-other}
 use Rattle.state.specs.View.{memory, frames, stateOf}
-use Rattle.state.proofs.Seen.{look-rd, frame-is, memory-put}
+use Rattle.state.proofs.Seen.{look-rd, frame-is}
 use Rattle.state.specs.Queues.{own}
 use Rattle.demand.specs.History.{Event, handedBy, returnedBy, all, handed, returned, endedOn, stillIn, listed}
 use Rattle.demand.specs.Demand.{Reached, firstOf, EachOnce, ListingAnswers, BeginningKept, DequeueAlone, AloneOnQueue}
@@ -140,9 +139,6 @@ module _ (s : Sizes) (es : List Event) (t : List ℕ) (q : Queue) where
       g : Frame
       g = begun 2 D1 q (node 0)
 
-      room : words s ≤ length t
-      room = measured-fits t s (k .sized) .room
-
       m : Keeps s t (k .fronts) (λ p. []) (λ p. []) u
       m = dequeue-kept s t (k .fronts) (k .sized) (k .world) l q u h
 
@@ -151,7 +147,7 @@ module _ (s : Sizes) (es : List Event) (t : List ℕ) (q : Queue) where
           record {
             sized = m .sized;
             world = m .world;
-            mem = rw (c .table) (memory-put s t room l g);
+            mem = c .mem-is;
             frame = rw (c .frames-are) (put-same (frames s t) (l .0) g);
             runs = omega arith;
             top = λ j a. rw (c .frames-are, put-other (frames s t) (l .0) g j (omega arith)) (c .idle j (omega arith));

@@ -43,7 +43,7 @@ use Rattle.invariant.proofs.Levels.{each, same-frames, raise}
 module _ (s : Sizes) (q l : ℕ) (W : State) (st : Stack) (low : l < s .levels) (q≥ : 1 ≤ q) (works : Works q (W .frames l))
     (listed : (j : ℕ) → j < l → W .mem .lq j ≡ q → Listed j st)
     (alone : W .frames l .op ≡ 2 → (j : ℕ) → j < l → Works q (W .frames j) → W .frames j .op ≢ 2) where
-  abbrev turn : Turn
+  abbrev pub turn : Turn
   unfolding counted
   turn = record {
     top = s .levels;
@@ -124,12 +124,12 @@ module _ (s : Sizes) (q l : ℕ) (W : State) (st : Stack) (low : l < s .levels) 
 -- ---- what the step leaves
 
 -- the highest frame on the queue is the top of the stack
-data TopOf (top q : ℕ) (v : View) (fr : ℕ → Frame) (l : ℕ) : Stack → Bool → Type 0 where
+pub data TopOf (top q : ℕ) (v : View) (fr : ℕ → Frame) (l : ℕ) : Stack → Bool → Type 0 where
   top-is : {i : Item} {st : Stack} {b b′ : Bool} → Works q (fr l)
       → Here top q v l (regs (fr l)) (pointOf (fr l .point)) i st b b′ → Pile top q v fr l st b
       → TopOf top q v fr l (push l i st) b′
 
-on-top : {top q n : ℕ} {v : View} {fr : ℕ → Frame} {st : Stack} {b : Bool} (l : ℕ) → ((j : ℕ) → l < j → fr j .op ≡ 0)
+pub on-top : {top q n : ℕ} {v : View} {fr : ℕ → Frame} {st : Stack} {b : Bool} (l : ℕ) → ((j : ℕ) → l < j → fr j .op ≡ 0)
     → Pile top q v fr n st b → Listed l st → TopOf top q v fr l st b
 on-top l idle (upon a o e t d) (inl h) = rw h (top-is o (rw (sym e) at t) d)
 on-top l idle (upon {l = j} a o e t d) (inr h) = absurd (omega (arith, o, idle j (listed-below d h)))

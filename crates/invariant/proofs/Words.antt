@@ -68,7 +68,7 @@ number-of : (n : ℕ) → (pointOf n ≡ Unknown) ⊎ (n ≡ numberOf (pointOf n
 unfolding pointOf
 number-of n = number-in points n
 
-early-at : {top q l : ℕ} {v : View} {g : Regs} {i : Item} {st : Stack} {b b′ : Bool} (p : Point) → Here top q v l g p i st b b′
+pub early-at : {top q l : ℕ} {v : View} {g : Regs} {i : Item} {st : Stack} {b b′ : Bool} (p : Point) → Here top q v l g p i st b b′
     → g .op ≡ 1 → numberOf p < 31
 early-at E1 h o = omega arith
 early-at E2 h o = omega arith
