@@ -1,0 +1,6 @@
+pub mod Sums
+pub mod Move
+pub mod All
+pub mod Few
+pub mod Calls
+pub mod Theorems
