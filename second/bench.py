@@ -6,6 +6,7 @@ CAS", 2007) and not from the bench's step table, so that the two can be held aga
 follow, previous_interrupt_level and find_anchor stand below as they are printed, comments included.
 
     second/bench.py [FILE]          the log of the schedule in FILE, or on standard input
+    second/bench.py --bounds [FILE] the second log: an E line ends with the bound on its steps
     second/bench.py --check DIR     hold DIR/stdin, a packed file of schedules, to DIR/stdout, their logs
     second/bench.py --write DIR     make DIR/stdout (what the packed files look like: crates/corpus/README.md)
 """
@@ -253,8 +254,8 @@ class Operation:
 
 
 class Bench:
-    def __init__(self, levels, queues, nodes):
-        self.levels, self.nodes = levels, nodes
+    def __init__(self, levels, queues, nodes, bounds=False):
+        self.levels, self.nodes, self.bounds = levels, nodes, bounds
         self.memory = Memory(levels, nodes)
         self.queues = {q: Queue(self.memory, q) for q in range(1, queues + 1)}
         self.running = []  # the operations that have begun and not ended, lowest level first
@@ -308,7 +309,10 @@ class Bench:
             if top.letter == "D":
                 top.node = ended.value
             self.running.pop()
-            self.log.append(f"{top.letter} {top.level} {top.queue} {top.node} {top.steps}")
+            words = [top.letter, top.level, top.queue, top.node, top.steps]
+            if self.bounds and top.letter == "E":
+                words.append((top.level + 2) * (self.nodes + 6))
+            self.log.append(" ".join(map(str, words)))
 
     def show(self, queue):
         if any(each.queue == queue for each in self.running):
@@ -321,15 +325,15 @@ class Bench:
         return " ".join(words)
 
 
-def log_of(text):
-    """The log of a schedule text, bytes for bytes."""
+def log_of(text, bounds=False):
+    """The log of a schedule text, bytes for bytes; the second log, if the bounds are asked for."""
     try:
         (levels, queues, nodes), events = read_schedule(text)
     except TextRefused as refused:
         return b"T %d\n" % refused.args
     if not (1 <= levels <= 16 and 1 <= queues <= 8 and queues <= nodes <= 1024):
         return b"R 0 2\n"
-    bench = Bench(levels, queues, nodes)
+    bench = Bench(levels, queues, nodes, bounds)
     for at, each in enumerate(events, 1):
         refusal = bench.perform(*each)
         if refusal:
@@ -393,10 +397,12 @@ def write(folder):
 def main(words):
     if len(words) == 2 and words[0] in ("--check", "--write"):
         return {"--check": check, "--write": write}[words[0]](words[1])
-    if len(words) > 1 or words and words[0].startswith("-"):
+    bounds = words[:1] == ["--bounds"]
+    files = words[bounds:]
+    if len(files) > 1 or files and files[0].startswith("-"):
         sys.exit(__doc__)
-    with open(words[0], "rb") if words else sys.stdin.buffer as schedule:
-        sys.stdout.buffer.write(log_of(schedule.read()))
+    with open(files[0], "rb") if files else sys.stdin.buffer as schedule:
+        sys.stdout.buffer.write(log_of(schedule.read(), bounds))
 
 
 if __name__ == "__main__":

@@ -32,6 +32,12 @@ RUNS = [
     ("leading-zero", "E 01 1 2", "T 6"),
 ]
 
+# One of them as the second program prints it: an E line ends with the bound on its steps, a D line does not.
+BOUNDED = [
+    ("dequeue-in-between", "E 0 1 2, S 6, E 1 1 3, S 16, D 1 1, S 28, D 1 1, S 2, S 4",
+     "E 1 1 3 16 30, D 1 1 3 28, D 1 1 0 2, E 0 1 2 10 20, Q 1 2"),
+]
+
 
 def schedule(sizes, events):
     """The text of a schedule: sizes 'L Q N', and the events with commas between them."""
@@ -53,10 +59,11 @@ def texts():
 
 
 def differing():
-    for name, events, log in RUNS:
-        got = log_of(schedule("2 1 4", events)).decode()
-        if got != log.replace(", ", "\n") + "\n":
-            yield f"{name}: {got!r}"
+    for bounds, runs in ((False, RUNS), (True, BOUNDED)):
+        for name, events, log in runs:
+            got = log_of(schedule("2 1 4", events), bounds).decode()
+            if got != log.replace(", ", "\n") + "\n":
+                yield f"{name}{' with bounds' if bounds else ''}: {got!r}"
     shown = examples()
     stored = [each[:-9] for each in os.listdir(HERE + "/../examples") if each.endswith(".schedule")]
     if sorted(stored) != sorted(name for name, _ in shown):
@@ -76,4 +83,4 @@ if __name__ == "__main__":
     wrong = list(differing())
     if wrong:
         sys.exit("\n".join(wrong))
-    print(f"{len(RUNS)} worked runs, {len(examples())} examples and {len(texts())} texts agree")
+    print(f"{len(RUNS) + len(BOUNDED)} worked runs, {len(examples())} examples and {len(texts())} texts agree")

@@ -1,16 +1,30 @@
 -- How long a line of the log can be, and how short a line of a schedule.
 use Prim.Native.Nat.{ℕ, _+_, _*_, _≤_}
 use mathlib.Core.Path.{_≡_, refl}
-use mathlib.Core.List.{List, [], _∷_}
+use mathlib.Core.List.{List, [], _∷_, _++_}
 use mathlib.Core.Bool.{Bool, true, false, cond}
 use native.Mathlib.Omega.{arith}
 use lib.ListN.{length, length-append}
 use lib.Dec.{ltb, eqb}
 use Rattle.answers.specs.declared.End.{End}
+use Rattle.answers.specs.Most.{enqueueMost}
 use Rattle.decimals.specs.Decimals.{widthOf, digitsOf, fieldOf}
 use Rattle.decimals.specs.Laws.{length-digits, length-field}
 use Rattle.text.specs.Text.{lf, space, headE, headD}
-use Rattle.loglines.specs.Lines.{textLine, refusalLine, headOf, endLine, nodesText, queueLine, unquietLine}
+use Rattle.loglines.specs.declared.Beside.{Beside}
+use Rattle.loglines.specs.declared.Beside.the-variants.{Nothing, Bound}
+use Rattle.loglines.specs.Lines.{
+  textLine,
+  refusalLine,
+  headOf,
+  operationText,
+  endLine,
+  boundLine,
+  lineOf,
+  nodesText,
+  queueLine,
+  unquietLine,
+}
 
 -- a number has one to five digits
 widths : (n : ℕ) → (1 ≤ widthOf n) × (widthOf n ≤ 5)
@@ -42,19 +56,41 @@ head-length op = by (eqb op 1)
     by true = refl
     by false = refl
 
--- the most bytes of a line `E level queue node steps`
-abbrev pub endMost : ℕ
-endMost = 26
-
-pub end-most : (e : End) → length (endLine e) ≤ endMost
-unfolding endLine
-end-most e =
+-- an ended operation up to its steps
+operation-most : (e : End) → length (operationText e) ≤ 20
+unfolding operationText
+operation-most e =
     let head = head-length (e .op) in
     let level = field-most (e .level .0) space in
     let queue = field-most (e .queue .0) space in
     let node = field-most (e .node .0) space in
-    let steps = field-most (e .steps) lf in
     simp length-append (omega arith)
+
+-- the most bytes of an ended operation's line, of either log
+abbrev pub lineMost : Beside → ℕ
+lineMost Nothing = 26
+lineMost (Bound nodes) = 32
+
+end-most : (e : End) → length (endLine e) ≤ 26
+unfolding endLine
+end-most e =
+    let operation = operation-most e in let steps = field-most (e .steps) lf in simp length-append (omega arith)
+
+pub line-most : (beside : Beside) (e : End) → length (lineOf beside e) ≤ lineMost beside
+unfolding boundLine
+line-most Nothing e = end-most e
+line-most (Bound nodes) e = by (eqb (e .op) 1)
+  where
+    bounded : List ℕ
+    bounded = operationText e ++ (fieldOf (e .steps) space ++ fieldOf (enqueueMost (e .level .0) nodes) lf)
+
+    by : (b : Bool) → length (cond b bounded (endLine e)) ≤ 32
+    by true =
+        let operation = operation-most e in
+        let steps = field-most (e .steps) space in
+        let bound = field-most (enqueueMost (e .level .0) nodes) lf in
+        simp length-append (omega arith)
+    by false = let line = end-most e in omega arith
 
 pub text-most : (line : ℕ) → length (textLine line) ≤ 8
 unfolding textLine

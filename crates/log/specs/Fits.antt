@@ -1,10 +1,12 @@
 -- Every log fits its room. A text of 65,536 bytes begins at most 10,922 operations, for 6 bytes is the shortest line that begins one; an
--- operation that ends has a line of at most 26 bytes, a refusal one of 14, and each of 8 queues one of at most 8 + 6 * 1024.
-use Prim.Native.Nat.{ℕ, zero, suc, _*_, _≤_}
+-- operation that ends has a line of at most 26 bytes, 32 with its bound, a refusal one of 14, and each of 8 queues one of at most
+-- 8 + 6 * 1024.
+use Prim.Native.Nat.{ℕ, zero, suc, _+_, _*_, _≤_}
 use mathlib.Core.Path.{_≡_, refl}
 use mathlib.Core.List.{List}
 use mathlib.Core.Bool.{Bool, true, false, cond, not}
 use native.Mathlib.Omega.{arith}
+use native.Mathlib.Nat.{zero-add}
 use lib.ListN.{length, getD, take, replicate, length-append, length-replicate}
 use lib.Seq.{length-take-le}
 use lib.Dec.{ltb}
@@ -24,9 +26,23 @@ use Rattle.asks.specs.Listing.{listingOf}
 use Rattle.play.specs.Play.{eventsOf}
 use Rattle.lengths.specs.Running.{running}
 use Rattle.lengths.specs.Ends.{fresh-idle}
-use Rattle.lengths.specs.Lines.{text-most, queue-most, unquiet-most}
+use Rattle.lengths.specs.Lines.{lineMost, line-most, text-most, queue-most, unquiet-most}
 use Rattle.lengths.specs.Events.{begunIn, events-most, begun-lines}
-use Rattle.log.specs.Log.{listedLine, queueOf, queuesOf, openingSizes, withQueues, sizedLog, readLog, logText, logRoom}
+use Rattle.log.specs.declared.Kind.{Kind}
+use Rattle.log.specs.declared.Kind.the-variants.{Plain, Bounds}
+use Rattle.log.specs.Log.{
+  listedLine,
+  queueOf,
+  queuesOf,
+  openingSizes,
+  withQueues,
+  besideOf,
+  lineIn,
+  sizedLog,
+  readLog,
+  logText,
+  roomOf,
+}
 use Rattle.log.specs.Listed.{listing-count}
 
 -- ---- the queues' lines
@@ -52,14 +68,23 @@ queues-fit t q (suc n) =
 
 -- ---- the whole log
 
-module _ (o : Opening) (es : List Event) (few : 6 * begunIn es ≤ longest) where
-  played-fits : (t : List ℕ) → running t ≡ 0 → o .queues ≤ 8 → length (withQueues o (eventsOf 1 es t) .0) ≤ logRoom
-  played-fits t idle queues =
-      let events = events-most 1 es t in
-      let lines = queues-fit (eventsOf 1 es t .1) 1 (o .queues) in
-      simp length-append (omega arith)
+-- the room has so many bytes for the lines of these operations, a refusal and 8 queues
+roomy : (kind : Kind) (n begun : ℕ) → 6 * begun ≤ longest → lineMost (besideOf kind n) * begun + (14 + 6152 * 8) ≤ roomOf kind
+roomy Plain n begun few = omega arith
+roomy Bounds n begun few = omega arith
 
-  sized-fits : (t : List ℕ) → length (sizedLog o es (freshOf (openingSizes o) t) .0) ≤ logRoom
+module _ (kind : Kind) (o : Opening) (es : List Event) (few : 6 * begunIn es ≤ longest) where
+  room : lineMost (besideOf kind (o .nodes)) * begunIn es + (14 + 6152 * 8) ≤ roomOf kind
+  room = roomy kind (o .nodes) (begunIn es) few
+
+  played-fits : (t : List ℕ) → running t ≡ 0 → o .queues ≤ 8 → length (withQueues o (eventsOf (lineIn kind o) 1 es t) .0) ≤ roomOf kind
+  played-fits t idle queues =
+      let events = events-most (lineIn kind o) (lineMost (besideOf kind (o .nodes))) (line-most (besideOf kind (o .nodes))) 1 es t in
+      let few = rw (idle, zero-add) at events in
+      let lines = queues-fit (eventsOf (lineIn kind o) 1 es t .1) 1 (o .queues) in
+      simp length-append (omega (arith, room))
+
+  sized-fits : (t : List ℕ) → length (sizedLog kind o es (freshOf (openingSizes o) t) .0) ≤ roomOf kind
   unfolding sizedLog freshOf
   sized-fits t = by (limits s) refl (ltb (length t) (words s)) refl
     where
@@ -67,20 +92,20 @@ module _ (o : Opening) (es : List Event) (few : 6 * begunIn es ≤ longest) wher
       s = openingSizes o
 
       by : (a : Bool) → limits s ≡ a → (b : Bool) → ltb (length t) (words s) ≡ b
-          → length (sizedLog o es (cond (not a) (refused 2, t) (cond b (refused 1, t) (says tt, freshTable s t))) .0) ≤ logRoom
-      by false l b r = omega arith
-      by true l true r = omega arith
+          → length (sizedLog kind o es (cond (not a) (refused 2, t) (cond b (refused 1, t) (says tt, freshTable s t))) .0) ≤ roomOf kind
+      by false l b r = omega (arith, room)
+      by true l true r = omega (arith, room)
       by true l false r =
           played-fits (freshTable s t) (fresh-idle s t l (ltb-false (length t) (words s) r)) (limits-are s l .queues)
 
-pub log-fits : (text t : List ℕ) → length (logText text t .0) ≤ logRoom
+pub log-fits : (kind : Kind) (text t : List ℕ) → length (logText kind text t .0) ≤ roomOf kind
 unfolding logText readLog
-log-fits text t = by (scheduleReading text) refl
+log-fits kind text t = by (scheduleReading text) refl
   where
-    by : (a : Answer (Opening × List Event)) → scheduleReading text ≡ a → length (readLog t a .0) ≤ logRoom
-    by (refuses number values) e = let line = text-most (getD values 0 0) in omega arith
+    by : (a : Answer (Opening × List Event)) → scheduleReading text ≡ a → length (readLog kind t a .0) ≤ roomOf kind
+    by (refuses number values) e = let line = text-most (getD values 0 0) in omega (arith, roomy kind 0 0 (omega arith))
     by (gives (o, es)) e =
         let w = is-written text o es e in
         let begun = begun-lines o es in
         let short = w .1 .short in
-        sized-fits o es (omega arith) t
+        sized-fits kind o es (omega arith) t

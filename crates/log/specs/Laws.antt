@@ -25,17 +25,19 @@ use Rattle.loglines.specs.Laws.{ink-then, ink-all}
 use Rattle.fresh.specs.Fresh.{freshOf}
 use Rattle.play.specs.Parts.{into, atPlace}
 use Rattle.play.specs.Laws.{place-events}
+use Rattle.log.specs.declared.Kind.{Kind}
 use Rattle.log.specs.Log.{
   listedLine,
   queueOf,
   queuesOf,
   openingSizes,
   withQueues,
+  lineIn,
   sizedLog,
   readLog,
   logText,
   largest,
-  logRoom,
+  roomOf,
   putLog,
   logOf,
 }
@@ -84,14 +86,15 @@ with-queues {y} {z} {u} x o p e f =
     rw b (ap (λ (w : Pen × List ℕ). (w, u)) (ink-then x (p .0) (queuesOf u 1 (o .queues)) a f))
 
 -- the log from the fresh table on, by what making it said
-module _ (x : Pen × List ℕ) (o : Opening) (text : List ℕ) (place : ℕ) (f : Said Unit × List ℕ) where
+module _ (kind : Kind) (x : Pen × List ℕ) (o : Opening) (text : List ℕ) (place : ℕ) (f : Said Unit × List ℕ) where
   pub placed-made : {y z : Pen × List ℕ} {u : List ℕ} (t : List ℕ) → f ≡ (says tt, t)
-      → into x (atPlace (o .events) 1 text place t) ≡ (y, u) → ink y (queuesOf u 1 (o .queues)) ≡ z → into x (placedLog o text place f) ≡ (z, u)
+      → into x (atPlace (lineIn kind o) (o .events) 1 text place t) ≡ (y, u) → ink y (queuesOf u 1 (o .queues)) ≡ z
+      → into x (placedLog kind o text place f) ≡ (z, u)
   unfolding placedLog
-  placed-made t e p q = rw e (with-queues x o (atPlace (o .events) 1 text place t) p q)
+  placed-made t e p q = rw e (with-queues x o (atPlace (lineIn kind o) (o .events) 1 text place t) p q)
 
   pub placed-refused : {y : Pen × List ℕ} (r : ℕ) (t : List ℕ) → f ≡ (refused r, t) → ink x sizesLine ≡ y
-      → into x (placedLog o text place f) ≡ (y, t)
+      → into x (placedLog kind o text place f) ≡ (y, t)
   unfolding placedLog
   placed-refused r t e p = rw e (ap (λ (w : Pen × List ℕ). (w, t)) p)
 
@@ -141,73 +144,81 @@ check-wrong text n vs h = by (sizesReading text) h
 
 -- ---- the whole log
 
-placed-is : (text : List ℕ) (o : Opening) (place : ℕ) (r : Right text o place) (f : Said Unit × List ℕ)
-    → placedLog o text place f ≡ sizedLog o (r .events) f
-unfolding placedLog sizedLog
-placed-is text o place r (refused n, t) = refl
-placed-is text o place r (says _, t) = ap (withQueues o) (place-events (o .events) 1 text place (r .next) (r .events) t (r .read))
+module _ (kind : Kind) (text t room : List ℕ) where
+  placed-is : (o : Opening) (place : ℕ) (r : Right text o place) (f : Said Unit × List ℕ)
+      → placedLog kind o text place f ≡ sizedLog kind o (r .events) f
+  unfolding placedLog sizedLog
+  placed-is o place r (refused n, t) = refl
+  placed-is o place r (says _, t) =
+      ap (withQueues o) (place-events (lineIn kind o) (o .events) 1 text place (r .next) (r .events) t (r .read))
 
-module _ (text t room : List ℕ) where
   pub log-right : {y : Pen × List ℕ} {u : List ℕ} (o : Opening) (place : ℕ) → checkReading text ≡ gives (o, place)
-      → into (At 0, room) (placedLog o text place (freshOf (openingSizes o) t)) ≡ (y, u) → into (At 0, room) (logText text t) ≡ (y, u)
+      → into (At 0, room) (placedLog kind o text place (freshOf (openingSizes o) t)) ≡ (y, u)
+      → into (At 0, room) (logText kind text t) ≡ (y, u)
   unfolding logText readLog
   log-right o place h e =
       let r = check-right text o place h in
-      let is = ap (readLog t) (r .whole) ∙ sym (placed-is text o place r (freshOf (openingSizes o) t)) in
+      let is = ap (readLog kind t) (r .whole) ∙ sym (placed-is o place r (freshOf (openingSizes o) t)) in
       rw is e
 
   pub log-wrong : {y : Pen × List ℕ} (line : ℕ) → checkReading text ≡ refuses 13 (line ∷ []) → ink (At 0, room) (textLine line) ≡ y
-      → into (At 0, room) (logText text t) ≡ (y, t)
+      → into (At 0, room) (logText kind text t) ≡ (y, t)
   unfolding logText readLog
   log-wrong line h e = rw (check-wrong text 13 (line ∷ []) h, e)
 
--- ---- what is answered
+  -- ---- what is answered
 
-pub log-short : (text t room : List ℕ) → length t < largest → logOf text t room ≡ ((refused 1, room), t)
-unfolding logOf
-log-short text t room h = rw (lt-ltb (length t) largest h)
+  pub log-short : length t < largest → logOf kind text t room ≡ ((refused 1, room), t)
+  unfolding logOf
+  log-short h = rw (lt-ltb (length t) largest h)
 
-pub log-cramped : (text t room : List ℕ) → largest ≤ length t → length room < logRoom → logOf text t room ≡ ((refused 12, room), t)
-unfolding logOf
-log-cramped text t room h r = rw (le-ltb (length t) largest h, lt-ltb (length room) logRoom r)
+  pub log-cramped : largest ≤ length t → length room < roomOf kind → logOf kind text t room ≡ ((refused 12, room), t)
+  unfolding logOf
+  log-cramped h r = rw (le-ltb (length t) largest h, lt-ltb (length room) (roomOf kind) r)
 
-module _ (text t room : List ℕ) (roomy : logRoom ≤ length room) where
+module _ (kind : Kind) (text t room : List ℕ) (roomy : roomOf kind ≤ length room) where
   -- the pen is past the log, and nowhere else
-  inked : into (At 0, room) (logText text t)
-      ≡ ((At (length (logText text t .0)), logText text t .0 ++ drop (length (logText text t .0)) room), logText text t .1)
+  inked : into (At 0, room) (logText kind text t)
+      ≡ (
+        (At (length (logText kind text t .0)), logText kind text t .0 ++ drop (length (logText kind text t .0)) room),
+        logText kind text t .1,
+      )
   inked =
-      let fits = log-fits text t in
-      ap (λ (x : Pen × List ℕ). (x, logText text t .1)) (ink-all room (logText text t .0) (omega arith))
+      let fits = log-fits kind text t in
+      ap (λ (x : Pen × List ℕ). (x, logText kind text t .1)) (ink-all room (logText kind text t .0) (omega arith))
 
-  pub log-laid : {after u : List ℕ} {n : ℕ} → largest ≤ length t → into (At 0, room) (logText text t) ≡ ((At n, after), u)
-      → logOf text t room ≡ ((says n, after), u)
+  pub log-laid : {after u : List ℕ} {n : ℕ} → largest ≤ length t → into (At 0, room) (logText kind text t) ≡ ((At n, after), u)
+      → logOf kind text t room ≡ ((says n, after), u)
   unfolding logOf putLog
   log-laid {after} {u} {n} long e =
       let same = sym inked ∙ e in
-      let at : _≡_ {A = Pen} (At (length (logText text t .0))) (At n) = ap (λ y. y .0 .0) same in
-      let count : length (logText text t .0) ≡ n = cc in
+      let at : _≡_ {A = Pen} (At (length (logText kind text t .0))) (At n) = ap (λ y. y .0 .0) same in
+      let count : length (logText kind text t .0) ≡ n = cc in
       let bytes = ap (λ y. y .0 .1) same in
       let table = ap (λ y. y .1) same in
-      rw (le-ltb (length t) largest long, le-ltb (length room) logRoom roomy, bytes, table, count)
+      rw (le-ltb (length t) largest long, le-ltb (length room) (roomOf kind) roomy, bytes, table, count)
 
-  pub never-full : {after u : List ℕ} → into (At 0, room) (logText text t) ≡ ((Full, after), u) → ⊥
+  pub never-full : {after u : List ℕ} → into (At 0, room) (logText kind text t) ≡ ((Full, after), u) → ⊥
   never-full e =
-      let at : _≡_ {A = Pen} (At (length (logText text t .0))) Full = ap (λ y. y .0 .0) (sym inked ∙ e) in
+      let at : _≡_ {A = Pen} (At (length (logText kind text t .0))) Full = ap (λ y. y .0 .0) (sym inked ∙ e) in
       let z : _≡_ {A = ℕ} 0 1 = cc in
       omega arith
 
 -- the bytes that are answered are in the room
-pub log-within : (text t room after u : List ℕ) (n : ℕ) → logOf text t room ≡ ((says n, after), u) → n ≤ length after
+pub log-within : (kind : Kind) (text t room after u : List ℕ) (n : ℕ) → logOf kind text t room ≡ ((says n, after), u) → n ≤ length after
 unfolding logOf putLog
-log-within text t room after u n h = by (ltb (length t) largest) (ltb (length room) logRoom) h
+log-within kind text t room after u n h = by (ltb (length t) largest) (ltb (length room) (roomOf kind)) h
   where
-    by : (a b : Bool) → cond a ((refused 1, room), t) (cond b ((refused 12, room), t) (putLog (logText text t) room)) ≡ ((says n, after), u)
+    log : List ℕ × List ℕ
+    log = logText kind text t
+
+    by : (a b : Bool) → cond a ((refused 1, room), t) (cond b ((refused 12, room), t) (putLog log room)) ≡ ((says n, after), u)
         → n ≤ length after
     by true b e =
         let f : _≡_ {A = Said ℕ} (refused 1) (says n) = ap (λ q. q .0 .0) e in let z : _≡_ {A = ℕ} 0 1 = cc in absurd (omega arith)
     by false true e =
         let f : _≡_ {A = Said ℕ} (refused 12) (says n) = ap (λ q. q .0 .0) e in let z : _≡_ {A = ℕ} 0 1 = cc in absurd (omega arith)
     by false false e =
-        let f : _≡_ {A = Said ℕ} (says (length (logText text t .0))) (says n) = ap (λ q. q .0 .0) e in
-        let k : length (logText text t .0) ≡ n = cc in
-        omega (arith, length-append (logText text t .0) (drop (length (logText text t .0)) room), ap (λ q. length (q .0 .1)) e)
+        let f : _≡_ {A = Said ℕ} (says (length (log .0))) (says n) = ap (λ q. q .0 .0) e in
+        let k : length (log .0) ≡ n = cc in
+        omega (arith, length-append (log .0) (drop (length (log .0)) room), ap (λ q. length (q .0 .1)) e)

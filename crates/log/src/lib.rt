@@ -1,17 +1,33 @@
-// The whole log of a schedule's text.
+// The whole log of a schedule's text, the first program's or the second's.
 ghost use mathlib.Core.Path.{_≡_};
 ghost use Rattle.loglines.specs.declared.Pen.the-variants.{At};
 ghost use Rattle.loglines.specs.Ink.{ink};
 ghost use Rattle.fresh.specs.Fresh.{freshOf};
 ghost use Rattle.play.specs.Parts.{into};
-ghost use Rattle.log.specs.Log.{queueOf, queuesOf, openingSizes, logText, logSays, logOf};
+ghost use Rattle.log.specs.Log.{
+  queueOf,
+  queuesOf,
+  openingSizes,
+  besideOf,
+  logText,
+  roomOf,
+  logSays,
+  logOf,
+};
 ghost use Rattle.log.specs.Parts.{placedLog};
 use answers::Counted;
 use answers::Done;
+use loglines::Beside;
 use loglines::Pen;
 use text::Opening;
 use text::SizesRead;
 use words::Queue;
+
+// The first program's log, or the second's, with the bound on its steps in each E line.
+pub enum Kind {
+    Plain,
+    Bounds,
+}
 
 // The log's length; or the refusal of a table or a room that is too small.
 pub enum Logged {
@@ -19,10 +35,31 @@ pub enum Logged {
     Refused(u16),
 }
 
-// The words of the largest table, and the bytes that every log fits.
+// The words of the largest table, and the bytes that every log of its kind fits.
 pub const TABLE: usize = 2276;
 
 pub const ROOM: usize = 393216;
+
+pub const BOUNDS_ROOM: usize = 458752;
+
+fn room_of(kind: Kind) -> usize
+    ensures { λ r. ⌜ r ≡ roomOf kind ⌝ }
+{
+    match kind {
+        Kind::Plain => ROOM,
+        Kind::Bounds => BOUNDS_ROOM,
+    }
+}
+
+// What stands beside an enqueue's steps in this log, of a table of so many nodes.
+fn beside_of(kind: Kind, nodes: u16) -> Beside
+    ensures { λ r. ⌜ r ≡ besideOf kind nodes ⌝ }
+{
+    match kind {
+        Kind::Plain => Beside::Nothing,
+        Kind::Bounds => Beside::Bound(nodes),
+    }
+}
 
 // The queue's last line.
 fn write_queue(table: &[u16], room: &mut [u8], pen: Pen, q: Queue) -> Pen
@@ -48,12 +85,20 @@ fn write_queues(table: &[u16], room: &mut [u8], pen: Pen, queues: u16) -> Pen
 }
 
 // The log of a text that is right, whose events start at place.
-fn write_played(text: &[u8], place: usize, o: Opening, table: &mut [u16], room: &mut [u8]) -> Pen
-    ensures { λ r. ⌜ into (At 0, now (room .entry)) (placedLog o (now (text .entry)) place (freshOf (openingSizes o) (now (table .entry)))) ≡ ((r, now (room .exit)), now (table .exit)) ⌝ }
+fn write_played(
+    kind: Kind,
+    text: &[u8],
+    place: usize,
+    o: Opening,
+    table: &mut [u16],
+    room: &mut [u8],
+) -> Pen
+    ensures { λ r. ⌜ into (At 0, now (room .entry)) (placedLog kind o (now (text .entry)) place (freshOf (openingSizes o) (now (table .entry)))) ≡ ((r, now (room .exit)), now (table .exit)) ⌝ }
 {
     match fresh::fresh_table(table, o.levels, o.queues, o.nodes) {
         Done::Yes => {
-            let pen = play::play_events(text, place, o.events, table, room, Pen::At(0));
+            let beside = beside_of(kind, o.nodes);
+            let pen = play::play_events(text, place, o.events, table, room, Pen::At(0), beside);
             write_queues(table, room, pen, o.queues)
         }
         Done::Refused(_) => loglines::put(room, Pen::At(0), b"R 0 2\n"),
@@ -61,26 +106,26 @@ fn write_played(text: &[u8], place: usize, o: Opening, table: &mut [u16], room: 
 }
 
 // The log of any text, as far as the room reaches.
-fn write_whole(text: &[u8], table: &mut [u16], room: &mut [u8]) -> Pen
-    ensures { λ r. ⌜ into (At 0, now (room .entry)) (logText (now (text .entry)) (now (table .entry))) ≡ ((r, now (room .exit)), now (table .exit)) ⌝ }
+fn write_whole(kind: Kind, text: &[u8], table: &mut [u16], room: &mut [u8]) -> Pen
+    ensures { λ r. ⌜ into (At 0, now (room .entry)) (logText kind (now (text .entry)) (now (table .entry))) ≡ ((r, now (room .exit)), now (table .exit)) ⌝ }
 {
     match schedule::check_text(text) {
-        SizesRead::Read(o, place) => write_played(text, place, o, table, room),
+        SizesRead::Read(o, place) => write_played(kind, text, place, o, table, room),
         SizesRead::Refused(line) => loglines::put_text_refusal(room, Pen::At(0), line),
     }
 }
 
 // Writes the log of a schedule's text into the room, and answers its length. The table is for its work.
-pub fn write_log(text: &[u8], table: &mut [u16], room: &mut [u8]) -> Logged
-    ensures { λ r. ⌜ logOf (now (text .entry)) (now (table .entry)) (now (room .entry)) ≡ ((logSays r, now (room .exit)), now (table .exit)) ⌝ }
+pub fn write_log(kind: Kind, text: &[u8], table: &mut [u16], room: &mut [u8]) -> Logged
+    ensures { λ r. ⌜ logOf kind (now (text .entry)) (now (table .entry)) (now (room .entry)) ≡ ((logSays r, now (room .exit)), now (table .exit)) ⌝ }
 {
     if table.len() < TABLE {
         return Logged::Refused(1);
     }
-    if room.len() < ROOM {
+    if room.len() < room_of(kind) {
         return Logged::Refused(12);
     }
-    match write_whole(text, table, room) {
+    match write_whole(kind, text, table, room) {
         Pen::At(n) => Logged::Bytes(n),
         // never: every log fits its room
         Pen::Full => Logged::Refused(12),

@@ -5,8 +5,10 @@ use mathlib.Core.Bool.{cond}
 use lib.Dec.{eqb}
 use Rattle.decimals.specs.Decimals.{digitsOf, fieldOf}
 use Rattle.text.specs.Text.{lf, space, headE, headD}
-use Rattle.words.specs.declared.Node.{Node}
 use Rattle.answers.specs.declared.End.{End}
+use Rattle.answers.specs.Most.{enqueueMost}
+use Rattle.loglines.specs.declared.Beside.{Beside}
+use Rattle.loglines.specs.declared.Beside.the-variants.{Nothing, Bound}
 
 abbrev pub headT : List ℕ
 headT = 84 ∷ space ∷ []
@@ -32,16 +34,27 @@ sizesLine = 82 ∷ space ∷ 48 ∷ space ∷ 50 ∷ lf ∷ []
 unfoldable pub refusalLine : ℕ → ℕ → List ℕ
 refusalLine event number = headR ++ (fieldOf event space ++ fieldOf number lf)
 
--- an ended operation: `E level queue node steps` or `D level queue node steps`
+-- an ended operation up to its steps: `E level queue node ` or `D level queue node `
 abbrev pub headOf : ℕ → List ℕ
 headOf op = cond (eqb op 1) headE headD
 
-abbrev pub outcomeText : Node → ℕ → List ℕ
-outcomeText n steps = fieldOf (n .0) space ++ fieldOf steps lf
+unfoldable pub operationText : End → List ℕ
+operationText e = headOf (e .op) ++ (fieldOf (e .level .0) space ++ (fieldOf (e .queue .0) space ++ fieldOf (e .node .0) space))
 
+-- the first log's line of an ended operation: `E level queue node steps` or `D level queue node steps`
 unfoldable pub endLine : End → List ℕ
-endLine e =
-    headOf (e .op) ++ (fieldOf (e .level .0) space ++ (fieldOf (e .queue .0) space ++ outcomeText (e .node) (e .steps)))
+endLine e = operationText e ++ fieldOf (e .steps) lf
+
+-- the second log's, of a table of so many nodes: an enqueue has `E level queue node steps bound`. Within the limits a bound is at most
+-- 17 * 1030, so that its digits are all there
+unfoldable pub boundLine : ℕ → End → List ℕ
+boundLine nodes e =
+    cond (eqb (e .op) 1) (operationText e ++ (fieldOf (e .steps) space ++ fieldOf (enqueueMost (e .level .0) nodes) lf)) (endLine e)
+
+-- which of the two
+abbrev pub lineOf : Beside → End → List ℕ
+lineOf Nothing e = endLine e
+lineOf (Bound nodes) e = boundLine nodes e
 
 unfoldable pub nodesText : List ℕ → List ℕ
 nodesText [] = []

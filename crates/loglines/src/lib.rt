@@ -2,26 +2,33 @@
 ghost use mathlib.Core.Path.{_≡_};
 ghost use Prim.Native.Nat.{_≤_};
 ghost use lib.ListN.{length, take};
+ghost use Rattle.answers.specs.Most.{enqueueMost};
 ghost use Rattle.decimals.specs.Decimals.{digitsOf, fieldOf};
 ghost use Rattle.loglines.specs.Lines.{
   textLine,
   refusalLine,
   headOf,
-  outcomeText,
-  endLine,
+  operationText,
+  lineOf,
   nodesText,
   queueLine,
   unquietLine,
 };
 ghost use Rattle.loglines.specs.Ink.{inkOne, ink};
 use answers::End;
-use words::Node;
+use words::Level;
 use words::Queue;
 
 // How many bytes are written; or that the room was too small for the next one, after which nothing is written.
 pub enum Pen {
     At(usize),
     Full,
+}
+
+// What stands beside an enqueue's steps in its line: nothing, or the bound on them in a table of so many nodes.
+pub enum Beside {
+    Nothing,
+    Bound(u16),
 }
 
 const SPACE: u8 = 32;
@@ -99,22 +106,39 @@ fn put_letter(room: &mut [u8], pen: Pen, op: u16) -> Pen
     }
 }
 
-// `node steps`
-fn put_outcome(room: &mut [u8], pen: Pen, n: Node, steps: u16) -> Pen
-    ensures { λ r. ⌜ ink (pen, now (room .entry)) (outcomeText n steps) ≡ (r, now (room .exit)) ⌝ }
-{
-    let node = put_field(room, pen, n.0 as usize, SPACE);
-    put_field(room, node, steps as usize, LF)
-}
-
-// `E level queue node steps` or `D level queue node steps`
-pub fn put_end(room: &mut [u8], pen: Pen, e: End) -> Pen
-    ensures { λ r. ⌜ ink (pen, now (room .entry)) (endLine e) ≡ (r, now (room .exit)) ⌝ }
+// `E level queue node ` or `D level queue node `
+fn put_operation(room: &mut [u8], pen: Pen, e: End) -> Pen
+    ensures { λ r. ⌜ ink (pen, now (room .entry)) (operationText e) ≡ (r, now (room .exit)) ⌝ }
 {
     let head = put_letter(room, pen, e.op);
     let level = put_field(room, head, e.level.0 as usize, SPACE);
     let queue = put_field(room, level, e.queue.0 as usize, SPACE);
-    put_outcome(room, queue, e.node, e.steps)
+    put_field(room, queue, e.node.0 as usize, SPACE)
+}
+
+// The most steps that an enqueue takes at a level of a table of so many nodes.
+fn enqueue_most(l: Level, nodes: u16) -> usize
+    ensures { λ r. ⌜ r ≡ enqueueMost (l .0) nodes ⌝ }
+{
+    (l.0 as usize + 2) * (nodes as usize + 6)
+}
+
+// `E level queue node steps` or `D level queue node steps`; beside an enqueue's steps their bound, if it is asked for
+pub fn put_end(room: &mut [u8], pen: Pen, e: End, beside: Beside) -> Pen
+    ensures { λ r. ⌜ ink (pen, now (room .entry)) (lineOf beside e) ≡ (r, now (room .exit)) ⌝ }
+{
+    let next = put_operation(room, pen, e);
+    match beside {
+        Beside::Nothing => put_field(room, next, e.steps as usize, LF),
+        Beside::Bound(nodes) => {
+            if e.op == 1 {
+                let steps = put_field(room, next, e.steps as usize, SPACE);
+                put_field(room, steps, enqueue_most(e.level, nodes), LF)
+            } else {
+                put_field(room, next, e.steps as usize, LF)
+            }
+        }
+    }
 }
 
 // The first n nodes, each after a space.

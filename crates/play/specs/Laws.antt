@@ -12,7 +12,7 @@ use Rattle.text.specs.Reading.{eventReading}
 use Rattle.text.specs.Laws.{onto-is, given-is}
 use Rattle.steps.specs.Run.{runOf}
 use Rattle.schedule.specs.Whole.{eventsReading}
-use Rattle.loglines.specs.Lines.{endLine, refusalLine}
+use Rattle.loglines.specs.Lines.{refusalLine}
 use Rattle.loglines.specs.declared.Pen.{Pen}
 use Rattle.loglines.specs.Ink.{ink}
 use Rattle.loglines.specs.Laws.{ink-append, ink-then}
@@ -31,22 +31,23 @@ into-none x a = refl
 pub into-quiet : {A : Type 0} (x : Pen × List ℕ) (a b : A) → a ≡ b → into x ([], a) ≡ (x, b)
 into-quiet x a b e = into-none x a ∙ rw e
 
--- a run that ended an operation, and one that stopped otherwise
-pub run-ended : (x y : Pen × List ℕ) (left n : ℕ) (t u : List ℕ) (e : End) → 0 < left → runOf left t ≡ (says (after n (an-end e)), u)
-    → ink x (endLine e) ≡ y → into x (stepsOf left t) ≡ into y (stepsOf (left - n) u)
-unfolding ranPlayed
-run-ended x y left n t u e h r i =
-    ap (into x) (steps-run left t h ∙ ap (ranPlayed left) r) ∙ into-before x y (endLine e) (stepsOf (left - n) u) i
+module _ (line : End → List ℕ) (x : Pen × List ℕ) (left : ℕ) (t : List ℕ) where
+  -- a run that ended an operation, and one that stopped otherwise
+  pub run-ended : (y : Pen × List ℕ) (n : ℕ) (u : List ℕ) (e : End) → 0 < left → runOf left t ≡ (says (after n (an-end e)), u)
+      → ink x (line e) ≡ y → into x (stepsOf line left t) ≡ into y (stepsOf line (left - n) u)
+  unfolding ranPlayed
+  run-ended y n u e h r i =
+      ap (into x) (steps-run line left t h ∙ ap (ranPlayed line left) r) ∙ into-before x y (line e) (stepsOf line (left - n) u) i
 
-pub run-stopped : (x : Pen × List ℕ) (left : ℕ) (t u : List ℕ) (a : Said Run) (d : Said Unit) → 0 < left → runOf left t ≡ (a, u)
-    → ranPlayed left (a, u) ≡ ([], (d, u)) → into x (stepsOf left t) ≡ (x, (d, u))
-run-stopped x left t u a d h r e =
-    ap (into x) (steps-run left t h ∙ ap (ranPlayed left) r ∙ e) ∙ into-none x (d, u)
+  pub run-stopped : (u : List ℕ) (a : Said Run) (d : Said Unit) → 0 < left → runOf left t ≡ (a, u)
+      → ranPlayed line left (a, u) ≡ ([], (d, u)) → into x (stepsOf line left t) ≡ (x, (d, u))
+  run-stopped u a d h r e =
+      ap (into x) (steps-run line left t h ∙ ap (ranPlayed line left) r ∙ e) ∙ into-none x (d, u)
 
-pub steps-none : (x : Pen × List ℕ) (left : ℕ) (t : List ℕ) → left ≤ 0 → into x (stepsOf left t) ≡ (x, (says tt, t))
+pub steps-none : (line : End → List ℕ) (x : Pen × List ℕ) (left : ℕ) (t : List ℕ) → left ≤ 0 → into x (stepsOf line left t) ≡ (x, (says tt, t))
 unfolding stepsOf
-steps-none x zero t h = into-none x (says tt, t)
-steps-none x (suc n) t h = absurd (omega arith)
+steps-none line x zero t h = into-none x (says tt, t)
+steps-none line x (suc n) t h = absurd (omega arith)
 
 -- ---- an event, and those that follow it
 
@@ -72,59 +73,62 @@ module _ (x y : Pen × List ℕ) (i : ℕ) (others : List ℕ → List ℕ × Li
       let h : q ≡ r = cc in
       rw (g, h) (ap (λ (w : Pen × List ℕ). (w, u)) (ink-then x line (refusalLine i r) f k))
 
-place-more : (k i : ℕ) (text : List ℕ) (at next : ℕ) (t : List ℕ) (e : Event) → 0 < k → eventReading text at ≡ gives (e, next)
-    → atPlace k i text at t ≡ follow i (atPlace (k - 1) (i + 1) text next) (eventOf e t)
-unfolding atPlace
-place-more zero i text at next t e h r = absurd (omega arith)
-place-more (suc k) i text at next t e h r = rw (r, sub-one, add-one)
+module _ (line : End → List ℕ) where
+  place-more : (k i : ℕ) (text : List ℕ) (at next : ℕ) (t : List ℕ) (e : Event) → 0 < k → eventReading text at ≡ gives (e, next)
+      → atPlace line k i text at t ≡ follow i (atPlace line (k - 1) (i + 1) text next) (eventOf line e t)
+  unfolding atPlace
+  place-more zero i text at next t e h r = absurd (omega arith)
+  place-more (suc k) i text at next t e h r = rw (r, sub-one, add-one)
 
--- event i + 1 of so many was read and performed: it was not refused, or it was
-module _ (x y : Pen × List ℕ) (count i : ℕ) (text : List ℕ) (at next : ℕ) (t u : List ℕ) (e : Event) (more : i < count)
-    (reads : eventReading text at ≡ gives (e, next)) where
-  pub event-played : into x (eventOf e t) ≡ (y, (says tt, u))
-      → into x (atPlace (count - i) (i + 1) text at t) ≡ into y (atPlace (count - (i + 1)) (i + 1 + 1) text next u)
-  event-played p =
-      let k : count - i - 1 ≡ count - (i + 1) = omega arith in
-      ap (into x) (place-more (count - i) (i + 1) text at next t e (omega arith) reads)
-      ∙ rw k (follow-on x y (i + 1) _ (eventOf e t) u p)
+  -- event i + 1 of so many was read and performed: it was not refused, or it was
+  module _ (x y : Pen × List ℕ) (count i : ℕ) (text : List ℕ) (at next : ℕ) (t u : List ℕ) (e : Event) (more : i < count)
+      (reads : eventReading text at ≡ gives (e, next)) where
+    pub event-played : into x (eventOf line e t) ≡ (y, (says tt, u))
+        → into x (atPlace line (count - i) (i + 1) text at t) ≡ into y (atPlace line (count - (i + 1)) (i + 1 + 1) text next u)
+    event-played p =
+        let k : count - i - 1 ≡ count - (i + 1) = omega arith in
+        ap (into x) (place-more (count - i) (i + 1) text at next t e (omega arith) reads)
+        ∙ rw k (follow-on x y (i + 1) _ (eventOf line e t) u p)
 
-  pub event-refused : (z : Pen × List ℕ) (r : ℕ) → into x (eventOf e t) ≡ (y, (refused r, u)) → ink y (refusalLine (i + 1) r) ≡ z
-      → into x (atPlace (count - i) (i + 1) text at t) ≡ (z, u)
-  event-refused z r p w =
-      ap (into x) (place-more (count - i) (i + 1) text at next t e (omega arith) reads)
-      ∙ follow-stop x y (i + 1) _ z (eventOf e t) r u p w
+    pub event-refused : (z : Pen × List ℕ) (r : ℕ) → into x (eventOf line e t) ≡ (y, (refused r, u))
+        → ink y (refusalLine (i + 1) r) ≡ z → into x (atPlace line (count - i) (i + 1) text at t) ≡ (z, u)
+    event-refused z r p w =
+        ap (into x) (place-more (count - i) (i + 1) text at next t e (omega arith) reads)
+        ∙ follow-stop x y (i + 1) _ z (eventOf line e t) r u p w
 
-pub place-wrong : (x : Pen × List ℕ) (k i : ℕ) (text : List ℕ) (at : ℕ) (t : List ℕ) (n : ℕ) (vs : List ℕ) → eventReading text at ≡ refuses n vs
-    → into x (atPlace k i text at t) ≡ (x, t)
-unfolding atPlace
-place-wrong x zero i text at t n vs r = into-none x t
-place-wrong x (suc k) i text at t n vs r = rw r (into-none x t)
+  pub place-wrong : (x : Pen × List ℕ) (k i : ℕ) (text : List ℕ) (at : ℕ) (t : List ℕ) (n : ℕ) (vs : List ℕ)
+      → eventReading text at ≡ refuses n vs → into x (atPlace line k i text at t) ≡ (x, t)
+  unfolding atPlace
+  place-wrong x zero i text at t n vs r = into-none x t
+  place-wrong x (suc k) i text at t n vs r = rw r (into-none x t)
 
-pub place-start : (x : Pen × List ℕ) (count : ℕ) (text : List ℕ) (at : ℕ) (t : List ℕ)
-    → into x (atPlace count 1 text at t) ≡ into x (atPlace (count - 0) (0 + 1) text at t)
-place-start x count text at t = let e : count ≡ count - 0 = omega arith in ap (λ (k : ℕ). into x (atPlace k 1 text at t)) e
+  pub place-start : (x : Pen × List ℕ) (count : ℕ) (text : List ℕ) (at : ℕ) (t : List ℕ)
+      → into x (atPlace line count 1 text at t) ≡ into x (atPlace line (count - 0) (0 + 1) text at t)
+  place-start x count text at t =
+      let e : count ≡ count - 0 = omega arith in ap (λ (k : ℕ). into x (atPlace line k 1 text at t)) e
 
-pub place-none : (x : Pen × List ℕ) (k i : ℕ) (text : List ℕ) (at : ℕ) (t : List ℕ) → k ≤ 0 → into x (atPlace k i text at t) ≡ (x, t)
-unfolding atPlace
-place-none x zero i text at t h = into-none x t
-place-none x (suc k) i text at t h = absurd (omega arith)
+  pub place-none : (x : Pen × List ℕ) (k i : ℕ) (text : List ℕ) (at : ℕ) (t : List ℕ) → k ≤ 0
+      → into x (atPlace line k i text at t) ≡ (x, t)
+  unfolding atPlace
+  place-none x zero i text at t h = into-none x t
+  place-none x (suc k) i text at t h = absurd (omega arith)
 
 -- ---- the events of a text that is right are those that are performed
 
 follow-same : (i : ℕ) (f g : List ℕ → List ℕ × List ℕ) (p : Played) → ((t : List ℕ) → f t ≡ g t) → follow i f p ≡ follow i g p
 unfolding follow
-follow-same i f g (line, (says a, t)) h = ap (before line) (h t)
-follow-same i f g (line, (refused r, t)) h = refl
+follow-same i f g (lines, (says a, t)) h = ap (before lines) (h t)
+follow-same i f g (lines, (refused r, t)) h = refl
 
-pub place-events : (k i : ℕ) (text : List ℕ) (place next : ℕ) (es : List Event) (t : List ℕ) → eventsReading k text place ≡ gives (es, next)
-    → atPlace k i text place t ≡ eventsOf i es t
+pub place-events : (line : End → List ℕ) (k i : ℕ) (text : List ℕ) (place next : ℕ) (es : List Event) (t : List ℕ)
+    → eventsReading k text place ≡ gives (es, next) → atPlace line k i text place t ≡ eventsOf line i es t
 unfolding eventsReading atPlace eventsOf
-place-events zero i text place next es t h =
-    let x = given-is [] es place next h in ap (λ (l : List Event). eventsOf i l t) (x .0)
-place-events (suc k) i text place next es t h =
+place-events line zero i text place next es t h =
+    let x = given-is [] es place next h in ap (λ (l : List Event). eventsOf line i l t) (x .0)
+place-events line (suc k) i text place next es t h =
     let a = onto-is (eventReading text place) _ (es, next) h in
     let b = onto-is (eventsReading k text (a .0 .1)) _ (es, next) (a .2) in
     let x = given-is (a .0 .0 ∷ b .0 .0) es (b .0 .1) next (b .2) in
-    ap (readThen i (atPlace k (suc i) text) t) (a .1)
-    ∙ follow-same i _ _ (eventOf (a .0 .0) t) (λ u. place-events k (suc i) text (a .0 .1) (b .0 .1) (b .0 .0) u (b .1))
-    ∙ ap (λ (l : List Event). eventsOf i l t) (x .0)
+    ap (readThen line i (atPlace line k (suc i) text) t) (a .1)
+    ∙ follow-same i _ _ (eventOf line (a .0 .0) t) (λ u. place-events line k (suc i) text (a .0 .1) (b .0 .1) (b .0 .0) u (b .1))
+    ∙ ap (λ (l : List Event). eventsOf line i l t) (x .0)

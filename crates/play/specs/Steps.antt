@@ -24,7 +24,6 @@ use Rattle.steps.specs.declared.Served.{Served}
 use Rattle.steps.specs.declared.Served.the-variants.{At, Nobody}
 use Rattle.steps.specs.Step.{Out, sound, settled, performed, stepFrame, stepServed, stepSized, stepMeasured, stepOf}
 use Rattle.steps.specs.Run.{ranOn, runFrom, runMeasured, runOf}
-use Rattle.loglines.specs.Lines.{endLine}
 use Rattle.play.specs.Play.{Played, before, goOn, stepsOf}
 
 -- the refusals of a step of a table that was measured
@@ -75,32 +74,35 @@ module _ (s : Sizes) where
   step-is t m = rw m
 
 -- what a run leaves to play, of so many steps in all
-unfoldable pub ranPlayed : ℕ → Said Run × List ℕ → Played
-ranPlayed all (refused r, t) = ([], (refused r, t))
-ranPlayed all (says (after n (an-end e)), t) = before (endLine e) (stepsOf (all - n) t)
-ranPlayed all (says (after n spent), t) = ([], (says tt, t))
-ranPlayed all (says (after n nothing-runs), t) = ([], (refused 9, t))
-ranPlayed all (says (after n refusal-10), t) = ([], (refused 10, t))
+unfoldable pub ranPlayed : (End → List ℕ) → ℕ → Said Run × List ℕ → Played
+ranPlayed line all (refused r, t) = ([], (refused r, t))
+ranPlayed line all (says (after n (an-end e)), t) = before (line e) (stepsOf line (all - n) t)
+ranPlayed line all (says (after n spent), t) = ([], (says tt, t))
+ranPlayed line all (says (after n nothing-runs), t) = ([], (refused 9, t))
+ranPlayed line all (says (after n refusal-10), t) = ([], (refused 10, t))
 
-module _ (s : Sizes) where
-  run-played : (left n : ℕ) (t : List ℕ) → measured t ≡ Sized s → stepsOf left t ≡ ranPlayed (n + left) (runFrom s left n t)
+module _ (line : End → List ℕ) (s : Sizes) where
+  run-played : (left n : ℕ) (t : List ℕ) → measured t ≡ Sized s → stepsOf line left t ≡ ranPlayed line (n + left) (runFrom s left n t)
   unfolding stepsOf goOn runFrom ranOn ranPlayed
   run-played zero n t m = refl
-  run-played (suc left) n t m = ap (goOn (stepsOf left)) (step-is s t m) ∙ by (stepSized s t) (step-kept s t m) (run-played left (n + 1))
+  run-played (suc left) n t m =
+      ap (goOn line (stepsOf line left)) (step-is s t m) ∙ by (stepSized s t) (step-kept s t m) (run-played left (n + 1))
     where
-      by : (x : Out) → Kept s x → ((u : List ℕ) → measured u ≡ Sized s → stepsOf left u ≡ ranPlayed (n + 1 + left) (runFrom s left (n + 1) u))
-          → goOn (stepsOf left) x ≡ ranPlayed (n + suc left) (ranOn n (runFrom s left) (x .0) (x .1))
+      by : (x : Out) → Kept s x
+          → ((u : List ℕ) → measured u ≡ Sized s → stepsOf line left u ≡ ranPlayed line (n + 1 + left) (runFrom s left (n + 1) u))
+          → goOn line (stepsOf line left) x ≡ ranPlayed line (n + suc left) (ranOn n (runFrom s left) (x .0) (x .1))
       by (says going-on, u) k ih =
           let e : n + 1 + left ≡ n + suc left = omega arith in rw e at (ih u (k .sized))
       by (says (ended e), u) k ih =
-          let z : left ≡ n + suc left - (n + 1) = omega arith in ap (λ (i : ℕ). before (endLine e) (stepsOf i u)) z
+          let z : left ≡ n + suc left - (n + 1) = omega arith in ap (λ (i : ℕ). before (line e) (stepsOf line i u)) z
       by (refused r, u) k ih = why r (k .known)
         where
           why : (r : ℕ) → (r ≡ 9) ⊎ (r ≡ 10)
-              → ([], (refused r, u)) ≡ ranPlayed (n + suc left) (says (after n (cond (eqb r 9) nothing-runs refusal-10)), u)
+              → ([], (refused r, u)) ≡ ranPlayed line (n + suc left) (says (after n (cond (eqb r 9) nothing-runs refusal-10)), u)
           why r (inl e) = rw e
           why r (inr e) = rw e
 
+module _ (s : Sizes) where
   run-counts : (left n m : ℕ) (t u : List ℕ) (e : End) → runFrom s left n t ≡ (says (after m (an-end e)), u) → (n < m) × (m ≤ n + left)
   unfolding runFrom ranOn
   run-counts zero n m t u e h =
@@ -118,14 +120,14 @@ module _ (s : Sizes) where
           why true w = let f : says (after n nothing-runs) ≡ says (after m (an-end e)) = ap (λ q. q .0) w in let z : _≡_ {A = ℕ} 0 1 = cc in absurd (omega arith)
           why false w = let f : says (after n refusal-10) ≡ says (after m (an-end e)) = ap (λ q. q .0) w in let z : _≡_ {A = ℕ} 0 1 = cc in absurd (omega arith)
 
-pub steps-run : (left : ℕ) (t : List ℕ) → 0 < left → stepsOf left t ≡ ranPlayed left (runOf left t)
+pub steps-run : (line : End → List ℕ) (left : ℕ) (t : List ℕ) → 0 < left → stepsOf line left t ≡ ranPlayed line left (runOf left t)
 unfolding runOf runMeasured stepsOf goOn stepOf stepMeasured ranPlayed
-steps-run zero t h = absurd (omega arith)
-steps-run (suc n) t h = by (measured t) refl
+steps-run line zero t h = absurd (omega arith)
+steps-run line (suc n) t h = by (measured t) refl
   where
-    by : (x : Measured) → measured t ≡ x → stepsOf (suc n) t ≡ ranPlayed (suc n) (runMeasured (suc n) t x)
+    by : (x : Measured) → measured t ≡ x → stepsOf line (suc n) t ≡ ranPlayed line (suc n) (runMeasured (suc n) t x)
     by Unfit m = rw m
-    by (Sized s) m = rw zero-add at (run-played s (suc n) 0 t m)
+    by (Sized s) m = rw zero-add at (run-played line s (suc n) 0 t m)
 
 pub ran-counts : (left m : ℕ) (t u : List ℕ) (e : End) → runOf left t ≡ (says (after m (an-end e)), u) → (0 < m) × (m ≤ left)
 unfolding runOf runMeasured

@@ -1,10 +1,12 @@
 // The events of a schedule, performed in order; what ends and what is refused goes into the log.
 ghost use mathlib.Core.Path.{_≡_};
 ghost use Rattle.answers.specs.Said.{doneSays};
+ghost use Rattle.loglines.specs.Lines.{lineOf};
 ghost use Rattle.play.specs.Play.{stepsOf, eventOf};
 ghost use Rattle.play.specs.Parts.{into, atPlace};
 use answers::Done;
 use answers::Ran;
+use loglines::Beside;
 use loglines::Pen;
 use text::Event;
 use text::EventRead;
@@ -15,15 +17,15 @@ pub struct Turn {
     pub done: Done,
 }
 
-fn play_steps(table: &mut [u16], room: &mut [u8], pen: Pen, count: u16) -> Turn
-    ensures { λ r. ⌜ into (pen, now (room .entry)) (stepsOf count (now (table .entry))) ≡ ((r .pen, now (room .exit)), (doneSays (r .done), now (table .exit))) ⌝ }
+fn play_steps(table: &mut [u16], room: &mut [u8], pen: Pen, count: u16, beside: Beside) -> Turn
+    ensures { λ r. ⌜ into (pen, now (room .entry)) (stepsOf (lineOf beside) count (now (table .entry))) ≡ ((r .pen, now (room .exit)), (doneSays (r .done), now (table .exit))) ⌝ }
 {
     let mut next = pen;
     let mut left = count;
     while 0 < left {
         match steps::run(table, left) {
             Ran::Ended(n, e) => {
-                next = loglines::put_end(room, next, e);
+                next = loglines::put_end(room, next, e, beside);
                 left -= n;
             }
             Ran::Spent(_) => {
@@ -58,8 +60,8 @@ fn play_steps(table: &mut [u16], room: &mut [u8], pen: Pen, count: u16) -> Turn
     }
 }
 
-fn play_event(table: &mut [u16], room: &mut [u8], pen: Pen, e: Event) -> Turn
-    ensures { λ r. ⌜ into (pen, now (room .entry)) (eventOf e (now (table .entry))) ≡ ((r .pen, now (room .exit)), (doneSays (r .done), now (table .exit))) ⌝ }
+fn play_event(table: &mut [u16], room: &mut [u8], pen: Pen, e: Event, beside: Beside) -> Turn
+    ensures { λ r. ⌜ into (pen, now (room .entry)) (eventOf (lineOf beside) e (now (table .entry))) ≡ ((r .pen, now (room .exit)), (doneSays (r .done), now (table .exit))) ⌝ }
 {
     match e {
         Event::Enqueue(l, q, n) => {
@@ -70,7 +72,7 @@ fn play_event(table: &mut [u16], room: &mut [u8], pen: Pen, e: Event) -> Turn
             let done = begins::begin_dequeue(table, l, q);
             Turn { pen, done }
         }
-        Event::Steps(count) => play_steps(table, room, pen, count),
+        Event::Steps(count) => play_steps(table, room, pen, count, beside),
     }
 }
 
@@ -82,8 +84,9 @@ pub fn play_events(
     table: &mut [u16],
     room: &mut [u8],
     pen: Pen,
+    beside: Beside,
 ) -> Pen
-    ensures { λ r. ⌜ into (pen, now (room .entry)) (atPlace count 1 (now (text .entry)) place (now (table .entry))) ≡ ((r, now (room .exit)), now (table .exit)) ⌝ }
+    ensures { λ r. ⌜ into (pen, now (room .entry)) (atPlace (lineOf beside) count 1 (now (text .entry)) place (now (table .entry))) ≡ ((r, now (room .exit)), now (table .exit)) ⌝ }
 {
     let mut next = pen;
     let mut at = place;
@@ -93,7 +96,7 @@ pub fn play_events(
         match reader::event_at(text, at) {
             EventRead::Read(e, after) => {
                 at = after;
-                let turn = play_event(table, room, next, e);
+                let turn = play_event(table, room, next, e, beside);
                 next = turn.pen;
                 let done = turn.done;
                 match done {

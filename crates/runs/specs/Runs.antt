@@ -1,4 +1,4 @@
--- The starred worked runs of document 01, as one list: L 2, Q 1, N 4.
+-- The starred worked runs of document 01, as one list: L 2, Q 1, N 4. The program case stands twice, for the second program too.
 use Prim.Native.Nat.{ℕ}
 use Prim.Native.Char.{code}
 use Prim.Native.String.{String, [] as []ₛ, _∷_ as _∷ₛ_}
@@ -15,6 +15,8 @@ use Rattle.text.specs.declared.Event.{Event}
 use Rattle.text.specs.declared.Event.the-variants.{Enqueue, Dequeue, Steps}
 use Rattle.fresh.specs.Fresh.{freshOf}
 use Rattle.loglines.specs.Lines.{endLine, queueLine}
+use Rattle.log.specs.declared.Kind.{Kind}
+use Rattle.log.specs.declared.Kind.the-variants.{Plain, Bounds}
 use Rattle.log.specs.Log.{openingSizes, sizedLog, logText}
 
 abbrev pub opening : List Event → Opening
@@ -57,21 +59,25 @@ lines (e ∷ es) nodes = endLine e ++ lines es nodes
 
 -- from a fresh table of 40 words: the log, and the table afterwards
 abbrev pub outcome : List Event → List ℕ × List ℕ
-outcome es = sizedLog (opening es) es (freshOf sizes (room 40))
+outcome es = sizedLog Plain (opening es) es (freshOf sizes (room 40))
 
 -- what a run shows: fresh answers this for so many words; these events end these operations and leave this listing; they leave
--- this head and tail; the program, given this text, prints this
+-- this head and tail; the program of this kind, given this text, prints this
 pub data Run : Type 0 where
   fresh : ℕ → Said Unit → Run
   lists : List Event → List End → List ℕ → Run
   ends : List Event → ℕ → ℕ → Run
-  prints : String → String → Run
+  prints : Kind → String → String → Run
 
 abbrev pub Holds : Run → Type 0
 Holds (fresh n answer) = freshOf sizes (room n) .0 ≡ answer
 Holds (lists es done nodes) = outcome es .0 ≡ lines done nodes
 Holds (ends es head tail) = (rd sizes (outcome es .1) (Head (queue 1)) ≡ head) × (rd sizes (outcome es .1) (Tail (queue 1)) ≡ tail)
-Holds (prints schedule log) = logText (bytes schedule) (room 40) .0 ≡ bytes log
+Holds (prints kind schedule log) = logText kind (bytes schedule) (room 40) .0 ≡ bytes log
+
+-- the schedule of the program case
+abbrev swap : String
+swap = "3\n2\n1\n4\n6\nE 0 1 2\nS 4\nE 1 1 3\nS 13\nE 1 1 4\nS 21\n"
 
 abbrev pub starred : List Run
 starred =
@@ -82,7 +88,8 @@ starred =
     ∷ lists (D 0 1 ∷ S 2 ∷ []) (D· 0 1 0 2 ∷ []) []
     ∷ lists (E 0 1 2 ∷ S 10 ∷ D 0 1 ∷ S 22 ∷ []) (E· 0 1 2 10 ∷ D· 0 1 2 22 ∷ []) []
     ∷ ends (E 0 1 2 ∷ S 10 ∷ D 0 1 ∷ S 22 ∷ []) 1 1
-    ∷ prints "3\n2\n1\n4\n6\nE 0 1 2\nS 4\nE 1 1 3\nS 13\nE 1 1 4\nS 21\n" "E 1 1 3 13\nE 1 1 4 13\nE 0 1 2 12\nQ 1 2 4 3\n"
+    ∷ prints Plain swap "E 1 1 3 13\nE 1 1 4 13\nE 0 1 2 12\nQ 1 2 4 3\n"
+    ∷ prints Bounds swap "E 1 1 3 13 30\nE 1 1 4 13 30\nE 0 1 2 12 20\nQ 1 2 4 3\n"
     ∷ lists (E 0 1 2 ∷ S 6 ∷ E 1 1 3 ∷ S 16 ∷ S 4 ∷ []) (E· 1 1 3 16 ∷ E· 0 1 2 10 ∷ []) (3 ∷ 2 ∷ [])
     ∷ lists (E 0 1 2 ∷ S 6 ∷ E 1 1 3 ∷ S 16 ∷ D 1 1 ∷ S 28 ∷ D 1 1 ∷ S 2 ∷ S 4 ∷ [])
     (E· 1 1 3 16 ∷ D· 1 1 3 28 ∷ D· 1 1 0 2 ∷ E· 0 1 2 10 ∷ []) (2 ∷ [])

@@ -9,13 +9,13 @@ use Rattle.corpus.proofs.run_case.Tie as tie
 slice-aggregate-write-all : tie.Need-slice-aggregate-write-all
 slice-aggregate-write-all c = let h : 41 ≤ length (c .before .before .before .before .before .before .before .before .before .read-full .last .1 .0) = search needs in sym (length-take-le 41 (c .before .before .before .before .before .before .before .before .before .read-full .last .1 .0) h)
 
-slice-aggregate-write-log : tie.Need-slice-aggregate-write-log
-slice-aggregate-write-log c = sym (length-take-le _ _ (c .before .before .before .before .before .before .before .read-text .ensures))
+slice-aggregate-write-logs : tie.Need-slice-aggregate-write-logs
+slice-aggregate-write-logs c = sym (length-take-le _ _ (c .before .before .before .before .before .before .before .read-text .ensures))
 
 pub run-case-spec : {M : Type 1} → statement M
 run-case-spec =
     tie.close
     (tie.spec (λ c. search needs) (λ c κs. search needs) (λ c. search needs) (λ c κs. search needs) (λ c κs. search needs)
     (λ c. search needs) slice-aggregate-write-all (λ c κs. search needs) (λ c. search needs) (λ c κs. search needs)
-    (λ c. search needs) slice-aggregate-write-log (λ c κs. search needs) (λ c. search needs) (λ c. search needs)
-    (λ c. search needs) (λ c. search needs))
+    (λ c. search needs) slice-aggregate-write-logs (λ c κs. search needs) (λ c. search needs) (λ c. search needs)
+    (λ c. search needs) (λ c. search needs) (λ c. search needs))

@@ -3,6 +3,7 @@ use mathlib.Core.Path.{_≡_, refl, sym, _∙_}
 use native.Mathlib.Omega.{arith}
 use lib.ListN.{length}
 use Rattle.text.specs.Reading.{eventAnswer}
+use Rattle.loglines.specs.Lines.{lineOf}
 use Rattle.play.specs.Parts.{into, atPlace}
 use Rattle.play.specs.Laws.{event-played, event-refused, place-start, place-wrong, place-none}
 use borrow.Author.Needs.{needs}
@@ -10,30 +11,30 @@ use Rattle.play.proofs.play_events.Statement.{statement}
 use Rattle.play.proofs.play_events.Tie as tie
 
 abbrev Inv-loop : tie.InvT-loop
-Inv-loop text place count table₀ room₀ next₀ at₀ i₀ table room next at i =
+Inv-loop text place count table₀ room₀ beside next₀ at₀ i₀ table room next at i =
     (i ≤ count) × (length table ≡ length table₀) × (length room ≡ length room₀)
-    × (into (next₀, room₀) (atPlace count 1 text place table₀) ≡ into (next, room) (atPlace (count - i) (i + 1) text at table))
+    × (into (next₀, room₀) (atPlace (lineOf beside) count 1 text place table₀) ≡ into (next, room) (atPlace (lineOf beside) (count - i) (i + 1) text at table))
 
 abbrev μ-loop : tie.MeasureT-loop
-μ-loop text place count table₀ room₀ next₀ at₀ i₀ table room next at i = count - i
+μ-loop text place count table₀ room₀ beside next₀ at₀ i₀ table room next at i = count - i
 
 loop-holds : tie.Need-loop-holds Inv-loop μ-loop
-loop-holds c = (search needs, refl, refl, place-start _ _ _ _ _)
+loop-holds c = (search needs, refl, refl, place-start _ _ _ _ _ _)
 
 loop-again : tie.Need-loop-again Inv-loop μ-loop
 unfolding eventAnswer
-loop-again c = (search needs, search needs, search needs, (c .before .before .before .before .before .before .before .before .before .before .before .before .before .before .loop .inv .3) ∙ event-played _ _ (c .before .before .before .before .before .before .before .before .before .before .before .before .before .before .before .before .before .before .args .count) (c .before .before .before .before .before .before .before .before .before .before .before .before .before .before .loop .i) _ (c .before .before .before .before .before .before .before .before .before .before .before .before .before .before .loop .at) _ _ _ _ (c .before .before .before .before .before .before .before .before .before .before .before .before .before .loop-test .taken) (sym (rw (c .before .before .before .before .before .before .before .before .before .before .e .given .1) at (c .before .before .before .before .before .before .before .before .before .before .before .before .event-at .ensures))) (rw (c .enum-told .given .1) at (c .before .before .before .before .before .before .play-event .ensures)))
+loop-again c = (search needs, search needs, search needs, (c .before .before .before .before .before .before .before .before .before .before .before .before .before .before .loop .inv .3) ∙ event-played _ _ _ (c .before .before .before .before .before .before .before .before .before .before .before .before .before .before .before .before .before .before .args .count) (c .before .before .before .before .before .before .before .before .before .before .before .before .before .before .loop .i) _ (c .before .before .before .before .before .before .before .before .before .before .before .before .before .before .loop .at) _ _ _ _ (c .before .before .before .before .before .before .before .before .before .before .before .before .before .loop-test .taken) (sym (rw (c .before .before .before .before .before .before .before .before .before .before .e .given .1) at (c .before .before .before .before .before .before .before .before .before .before .before .before .event-at .ensures))) (rw (c .enum-told .given .1) at (c .before .before .before .before .before .before .play-event .ensures)))
 
 returns : tie.Need-returns Inv-loop μ-loop
 unfolding eventAnswer
-returns c = (c .before .before .before .before .before .before .before .before .before .before .before .before .before .before .before .before .before .before .before .loop .inv .3) ∙ event-refused _ _ (c .before .before .before .before .before .before .before .before .before .before .before .before .before .before .before .before .before .before .before .before .before .before .before .args .count) (c .before .before .before .before .before .before .before .before .before .before .before .before .before .before .before .before .before .before .before .loop .i) _ (c .before .before .before .before .before .before .before .before .before .before .before .before .before .before .before .before .before .before .before .loop .at) _ _ _ _ (c .before .before .before .before .before .before .before .before .before .before .before .before .before .before .before .before .before .before .loop-test .taken) (sym (rw (c .before .before .before .before .before .before .before .before .before .before .before .before .before .before .before .e .given .1) at (c .before .before .before .before .before .before .before .before .before .before .before .before .before .before .before .before .before .event-at .ensures))) _ _ (rw (c .before .before .before .before .before .done .given .1) at (c .before .before .before .before .before .before .before .before .before .before .before .play-event .ensures)) (c .before .before .put-refusal .ensures)
+returns c = (c .before .before .before .before .before .before .before .before .before .before .before .before .before .before .before .before .before .before .before .loop .inv .3) ∙ event-refused _ _ _ (c .before .before .before .before .before .before .before .before .before .before .before .before .before .before .before .before .before .before .before .before .before .before .before .args .count) (c .before .before .before .before .before .before .before .before .before .before .before .before .before .before .before .before .before .before .before .loop .i) _ (c .before .before .before .before .before .before .before .before .before .before .before .before .before .before .before .before .before .before .before .loop .at) _ _ _ _ (c .before .before .before .before .before .before .before .before .before .before .before .before .before .before .before .before .before .before .loop-test .taken) (sym (rw (c .before .before .before .before .before .before .before .before .before .before .before .before .before .before .before .e .given .1) at (c .before .before .before .before .before .before .before .before .before .before .before .before .before .before .before .before .before .event-at .ensures))) _ _ (rw (c .before .before .before .before .before .done .given .1) at (c .before .before .before .before .before .before .before .before .before .before .before .play-event .ensures)) (c .before .before .put-refusal .ensures)
 
 returns-2 : tie.Need-returns-2 Inv-loop μ-loop
 unfolding eventAnswer
-returns-2 c = (c .before .before .before .before .loop .inv .3) ∙ place-wrong _ _ _ _ _ _ _ _ (sym (rw (c .enum-told2 .given .1) at (c .before .before .event-at .ensures)))
+returns-2 c = (c .before .before .before .before .loop .inv .3) ∙ place-wrong _ _ _ _ _ _ _ _ _ (sym (rw (c .enum-told2 .given .1) at (c .before .before .event-at .ensures)))
 
 returns-3 : tie.Need-returns-3 Inv-loop μ-loop
-returns-3 c = (c .before .loop .inv .3) ∙ place-none _ _ _ _ _ _ (omega arith)
+returns-3 c = (c .before .loop .inv .3) ∙ place-none _ _ _ _ _ _ _ (omega arith)
 
 pub play-events-spec : {M : Type 1} → statement M
 play-events-spec =

@@ -1,6 +1,7 @@
 use mathlib.Core.Path.{_≡_, refl, _∙_}
 use native.Mathlib.Omega.{arith}
 use lib.ListN.{length}
+use Rattle.loglines.specs.Lines.{lineOf}
 use Rattle.play.specs.Play.{stepsOf}
 use Rattle.play.specs.Parts.{into}
 use Rattle.play.specs.Steps.{ranPlayed, ran-counts}
@@ -10,12 +11,12 @@ use Rattle.play.proofs.play_steps.Statement.{statement}
 use Rattle.play.proofs.play_steps.Tie as tie
 
 abbrev Inv-loop : tie.InvT-loop
-Inv-loop table₀ room₀ count next₀ left₀ table room next left =
+Inv-loop table₀ room₀ count beside next₀ left₀ table room next left =
     (length table ≡ length table₀) × (length room ≡ length room₀)
-    × (into (next₀, room₀) (stepsOf count table₀) ≡ into (next, room) (stepsOf left table))
+    × (into (next₀, room₀) (stepsOf (lineOf beside) count table₀) ≡ into (next, room) (stepsOf (lineOf beside) left table))
 
 abbrev μ-loop : tie.MeasureT-loop
-μ-loop table₀ room₀ count next₀ left₀ table room next left = left
+μ-loop table₀ room₀ count beside next₀ left₀ table room next left = left
 
 loop-holds : tie.Need-loop-holds Inv-loop μ-loop
 loop-holds c = (refl, refl, refl)
@@ -27,26 +28,26 @@ loop-less : tie.Need-loop-less Inv-loop μ-loop
 loop-less c = omega (arith, ran-counts _ _ _ _ _ (rw (c .before .before .before .before .before .n .given .1) at (c .before .before .before .before .before .before .before .before .before .run .ensures)))
 
 loop-again : tie.Need-loop-again Inv-loop μ-loop
-loop-again c = (search needs, search needs, (c .before .before .before .before .before .before .before .before .before .before .before .before .loop .inv .2) ∙ run-ended _ _ (c .before .before .before .before .before .before .before .before .before .before .before .before .loop .left) _ _ _ _ (c .before .before .before .before .before .before .before .before .before .before .before .loop-test .taken) (rw (c .before .before .before .before .before .n .given .1) at (c .before .before .before .before .before .before .before .before .before .run .ensures)) (c .before .before .put-end .ensures))
+loop-again c = (search needs, search needs, (c .before .before .before .before .before .before .before .before .before .before .before .before .loop .inv .2) ∙ run-ended _ _ (c .before .before .before .before .before .before .before .before .before .before .before .before .loop .left) _ _ _ _ _ (c .before .before .before .before .before .before .before .before .before .before .before .loop-test .taken) (rw (c .before .before .before .before .before .n .given .1) at (c .before .before .before .before .before .before .before .before .before .run .ensures)) (c .before .before .put-end .ensures))
 
 returns : tie.Need-returns Inv-loop μ-loop
 unfolding ranPlayed
-returns c = (c .before .before .before .before .before .before .before .loop .inv .2) ∙ run-stopped _ (c .before .before .before .before .before .before .before .loop .left) _ _ _ _ (c .before .before .before .before .before .before .loop-test .taken) (rw (c .enum-told .given .1) at (c .before .before .before .before .run .ensures)) refl
+returns c = (c .before .before .before .before .before .before .before .loop .inv .2) ∙ run-stopped _ _ (c .before .before .before .before .before .before .before .loop .left) _ _ _ _ (c .before .before .before .before .before .before .loop-test .taken) (rw (c .enum-told .given .1) at (c .before .before .before .before .run .ensures)) refl
 
 returns-2 : tie.Need-returns-2 Inv-loop μ-loop
 unfolding ranPlayed
-returns-2 c = (c .before .before .before .before .before .before .before .loop .inv .2) ∙ run-stopped _ (c .before .before .before .before .before .before .before .loop .left) _ _ _ _ (c .before .before .before .before .before .before .loop-test .taken) (rw (c .enum-told2 .given .1) at (c .before .before .before .before .run .ensures)) refl
+returns-2 c = (c .before .before .before .before .before .before .before .loop .inv .2) ∙ run-stopped _ _ (c .before .before .before .before .before .before .before .loop .left) _ _ _ _ (c .before .before .before .before .before .before .loop-test .taken) (rw (c .enum-told2 .given .1) at (c .before .before .before .before .run .ensures)) refl
 
 returns-3 : tie.Need-returns-3 Inv-loop μ-loop
 unfolding ranPlayed
-returns-3 c = (c .before .before .before .before .before .before .before .loop .inv .2) ∙ run-stopped _ (c .before .before .before .before .before .before .before .loop .left) _ _ _ _ (c .before .before .before .before .before .before .loop-test .taken) (rw (c .enum-told3 .given .1) at (c .before .before .before .before .run .ensures)) refl
+returns-3 c = (c .before .before .before .before .before .before .before .loop .inv .2) ∙ run-stopped _ _ (c .before .before .before .before .before .before .before .loop .left) _ _ _ _ (c .before .before .before .before .before .before .loop-test .taken) (rw (c .enum-told3 .given .1) at (c .before .before .before .before .run .ensures)) refl
 
 returns-4 : tie.Need-returns-4 Inv-loop μ-loop
 unfolding ranPlayed
-returns-4 c = (c .before .before .before .before .before .before .before .before .loop .inv .2) ∙ run-stopped _ (c .before .before .before .before .before .before .before .before .loop .left) _ _ _ _ (c .before .before .before .before .before .before .before .loop-test .taken) (rw (c .before .r .given .1) at (c .before .before .before .before .before .run .ensures)) refl
+returns-4 c = (c .before .before .before .before .before .before .before .before .loop .inv .2) ∙ run-stopped _ _ (c .before .before .before .before .before .before .before .before .loop .left) _ _ _ _ (c .before .before .before .before .before .before .before .loop-test .taken) (rw (c .before .r .given .1) at (c .before .before .before .before .before .run .ensures)) refl
 
 returns-5 : tie.Need-returns-5 Inv-loop μ-loop
-returns-5 c = (c .before .loop .inv .2) ∙ steps-none _ (c .before .loop .left) _ (c .loop-test .left)
+returns-5 c = (c .before .loop .inv .2) ∙ steps-none _ _ (c .before .loop .left) _ (c .loop-test .left)
 
 pub play-steps-spec : {M : Type 1} → statement M
 play-steps-spec =
