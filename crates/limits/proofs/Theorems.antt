@@ -46,7 +46,7 @@ module _ (s : Sizes) (v : ℕ) (cap : Capped s) where
   last-good t w es k (also {u = u} {es = fs} m rest) = last-good u w fs (m .good) rest
 
   -- every end is within the bounds
-  end-short : (F G : ℕ → Frame) (x : Effect) (n : ℕ) (e : End) → x ≡ ends n e → Move (s .levels) v F G x → Short v e
+  pub end-short : (F G : ℕ → Frame) (x : Effect) (n : ℕ) (e : End) → x ≡ ends n e → Move (s .levels) v F G x → Short v e
   end-short F G _ n e z (begun i b) = let y : _≡_ {A = ℕ} 0 1 = cc in absurd (omega arith)
   end-short F G _ n e z (goes i b g) = let y : _≡_ {A = ℕ} 0 1 = cc in absurd (omega arith)
   end-short F G _ n e z (stops {e = d} i b gone x short) = let y : d ≡ e = cc in rw (← y) short
@@ -183,7 +183,7 @@ runs-begun s t u l q g idle e on none =
         ap (λ (f : Frame). f .op) same-frame ∙ idle j (omega arith)
 
 -- a call keeps what holds of a table
-good-then : (s : Sizes) (cap : Capped s) (t u : List ℕ) (e : Event) → Good s (s .nodes) t → Accepted t u e → Good s (s .nodes) u
+pub good-then : (s : Sizes) (cap : Capped s) (t u : List ℕ) (e : Event) → Good s (s .nodes) t → Accepted t u e → Good s (s .nodes) u
 good-then s cap t u e k a =
     accepted-moved s (s .nodes) cap t u e k (few-table s (stateOf s t) (k .fronts) (k .world)) a .good
 

@@ -33,6 +33,10 @@ abbrev pub Each : {A : Type 0} → (A → Type 0) → List A → Type 0
 Each P [] = Unit
 Each P (x ∷ xs) = P x × Each P xs
 
+-- the steps of an end are within its bounds, in a table of n nodes
+abbrev pub InBounds : ℕ → End → Type 0
+InBounds n e = (e .op ≡ 1 → e .steps ≤ enqueueMost (e .level .0) n) × (e .steps ≤ operationMost (e .level .0) n)
+
 -- ---- the words
 
 module _ (s : Sizes) (es : List Event) (t : List ℕ) where
@@ -50,12 +54,7 @@ module _ (s : Sizes) (es : List Event) (t : List ℕ) where
 
   -- Every end that was answered has at most so many steps.
   abbrev pub EndsWithin : Type 0
-  EndsWithin =
-      Reached s es t → Capped s
-      → Each
-      (λ (e : End).
-      (e .op ≡ 1 → e .steps ≤ enqueueMost (e .level .0) (s .nodes)) × (e .steps ≤ operationMost (e .level .0) (s .nodes)))
-      (endsOf es)
+  EndsWithin = Reached s es t → Capped s → Each (InBounds (s .nodes)) (endsOf es)
 
   -- Within document 01's limits the bounds are below the cap; so it never bites: each step of an operation adds 1 to its word.
   abbrev pub LimitsSuffice : Type 0

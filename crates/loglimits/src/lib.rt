@@ -1,0 +1,1 @@
+// No line of a log shows more steps than the bound. Theory only.
