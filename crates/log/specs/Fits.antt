@@ -68,7 +68,7 @@ queues-fit t q (suc n) =
 
 -- ---- the whole log
 
--- the room has so many bytes for the lines of these operations, a refusal and 8 queues
+-- the room has as many bytes as the lines of so many operations, a refusal and 8 queues take
 roomy : (kind : Kind) (n begun : ℕ) → 6 * begun ≤ longest → lineMost (besideOf kind n) * begun + (14 + 6152 * 8) ≤ roomOf kind
 roomy Plain n begun few = omega arith
 roomy Bounds n begun few = omega arith
@@ -80,7 +80,7 @@ module _ (kind : Kind) (o : Opening) (es : List Event) (few : 6 * begunIn es ≤
   played-fits : (t : List ℕ) → running t ≡ 0 → o .queues ≤ 8 → length (withQueues o (eventsOf (lineIn kind o) 1 es t) .0) ≤ roomOf kind
   played-fits t idle queues =
       let events = events-most (lineIn kind o) (lineMost (besideOf kind (o .nodes))) (line-most (besideOf kind (o .nodes))) 1 es t in
-      let few = rw (idle, zero-add) at events in
+      let begun = rw (idle, zero-add) at events in
       let lines = queues-fit (eventsOf (lineIn kind o) 1 es t .1) 1 (o .queues) in
       simp length-append (omega (arith, room))
 

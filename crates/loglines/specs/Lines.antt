@@ -45,13 +45,13 @@ operationText e = headOf (e .op) ++ (fieldOf (e .level .0) space ++ (fieldOf (e 
 unfoldable pub endLine : End → List ℕ
 endLine e = operationText e ++ fieldOf (e .steps) lf
 
--- the second log's, of a table of so many nodes: an enqueue has `E level queue node steps bound`. Within the limits a bound is at most
--- 17 * 1030, so that its digits are all there
+-- the second log's, of a table of so many nodes: an enqueue has `E level queue node steps bound`. A field has five digits at most, and
+-- within the limits a bound is at most 17 * 1030
 unfoldable pub boundLine : ℕ → End → List ℕ
 boundLine nodes e =
     cond (eqb (e .op) 1) (operationText e ++ (fieldOf (e .steps) space ++ fieldOf (enqueueMost (e .level .0) nodes) lf)) (endLine e)
 
--- which of the two
+-- the line by what stands beside an enqueue's steps
 abbrev pub lineOf : Beside → End → List ℕ
 lineOf Nothing e = endLine e
 lineOf (Bound nodes) e = boundLine nodes e

@@ -44,7 +44,8 @@ module _ (line : End → List ℕ) (x : Pen × List ℕ) (left : ℕ) (t : List 
   run-stopped u a d h r e =
       ap (into x) (steps-run line left t h ∙ ap (ranPlayed line left) r ∙ e) ∙ into-none x (d, u)
 
-pub steps-none : (line : End → List ℕ) (x : Pen × List ℕ) (left : ℕ) (t : List ℕ) → left ≤ 0 → into x (stepsOf line left t) ≡ (x, (says tt, t))
+pub steps-none : (line : End → List ℕ) (x : Pen × List ℕ) (left : ℕ) (t : List ℕ) → left ≤ 0
+    → into x (stepsOf line left t) ≡ (x, (says tt, t))
 unfolding stepsOf
 steps-none line x zero t h = into-none x (says tt, t)
 steps-none line x (suc n) t h = absurd (omega arith)
