@@ -6,7 +6,7 @@ CAS", 2007) and not from the bench's step table, so that the two can be held aga
 follow, previous_interrupt_level and find_anchor stand below as they are printed, comments included.
 
     second/bench.py [FILE]          the log of the schedule in FILE, or on standard input
-    second/bench.py --bounds [FILE] the second log: an E line ends with the bound on its steps
+    second/bench.py --bounds [FILE] the bounds log: an E line ends with the bound on its steps
     second/bench.py --check DIR     hold DIR/stdin, a packed file of schedules, to DIR/stdout, their logs
     second/bench.py --write DIR     make DIR/stdout (what the packed files look like: crates/corpus/README.md)
 """
@@ -326,7 +326,7 @@ class Bench:
 
 
 def log_of(text, bounds=False):
-    """The log of a schedule text, bytes for bytes; the second log, if the bounds are asked for."""
+    """The log of a schedule text, bytes for bytes; the bounds log, if that is asked for."""
     try:
         (levels, queues, nodes), events = read_schedule(text)
     except TextRefused as refused:

@@ -32,7 +32,7 @@ RUNS = [
     ("leading-zero", "E 01 1 2", "T 6"),
 ]
 
-# One of them as the second program prints it: an E line ends with the bound on its steps, a D line does not.
+# One of them in the bounds log: an E line ends with the bound on its steps, a D line does not.
 BOUNDED = [
     ("dequeue-in-between", "E 0 1 2, S 6, E 1 1 3, S 16, D 1 1, S 28, D 1 1, S 2, S 4",
      "E 1 1 3 16 30, D 1 1 3 28, D 1 1 0 2, E 0 1 2 10 20, Q 1 2"),

@@ -70,7 +70,7 @@ fn cut_bounds(log: &mut [u8], n: usize) -> usize
     left
 }
 
-// The log. The second program's must be the same but for its bounds: where it is not, a line in the log's place says so.
+// The log. The bounds log must be the same but for the bounds: where it is not, a line in the log's place says so.
 fn write_logs(text: &[u8], table: &mut [u16], room: &mut [u8], second: &mut [u8]) -> bool {
     let Logged::Bytes(m) = log::write_log(Kind::Plain, text, table, room) else {
         return false;

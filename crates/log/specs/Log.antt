@@ -1,4 +1,4 @@
--- The log of a schedule's text, as document 01 says it of the bench program; and the second program's, with the bounds.
+-- The log of a schedule's text, as document 01 says it of the bench program; and the bounds log, which the second log program prints.
 use Prim.Native.Nat.{ℕ, zero, suc}
 use mathlib.Core.List.{List, [], _++_}
 use mathlib.Core.Bool.{cond}
@@ -42,7 +42,7 @@ openingSizes o = record { levels = o .levels; queues = o .queues; nodes = o .nod
 abbrev pub withQueues : Opening → List ℕ × List ℕ → List ℕ × List ℕ
 withQueues o p = (p .0 ++ queuesOf (p .1) 1 (o .queues), p .1)
 
--- what stands beside an enqueue's steps, among so many nodes: in the first program's log nothing, in the second's their bound
+-- what stands beside an enqueue's steps, among so many nodes: in the log nothing, in the bounds log their bound
 abbrev pub besideOf : Kind → ℕ → Beside
 besideOf Plain nodes = Nothing
 besideOf Bounds nodes = Bound nodes

@@ -1,4 +1,4 @@
-// The whole log of a schedule's text, the first program's or the second's.
+// The whole log of a schedule's text, plain or with the bounds.
 ghost use mathlib.Core.Path.{_≡_};
 ghost use Rattle.loglines.specs.declared.Pen.the-variants.{At};
 ghost use Rattle.loglines.specs.Ink.{ink};
@@ -23,7 +23,7 @@ use text::Opening;
 use text::SizesRead;
 use words::Queue;
 
-// The first program's log, or the second's, with the bound on its steps in each E line.
+// The log as it is, or the bounds log: the bound on its steps stands last in each E line.
 pub enum Kind {
     Plain,
     Bounds,

@@ -41,11 +41,11 @@ headOf op = cond (eqb op 1) headE headD
 unfoldable pub operationText : End → List ℕ
 operationText e = headOf (e .op) ++ (fieldOf (e .level .0) space ++ (fieldOf (e .queue .0) space ++ fieldOf (e .node .0) space))
 
--- the first log's line of an ended operation: `E level queue node steps` or `D level queue node steps`
+-- the log's line of an ended operation: `E level queue node steps` or `D level queue node steps`
 unfoldable pub endLine : End → List ℕ
 endLine e = operationText e ++ fieldOf (e .steps) lf
 
--- the second log's, of a table of so many nodes: an enqueue has `E level queue node steps bound`. A field has five digits at most, and
+-- the bounds log's, of a table of so many nodes: an enqueue has `E level queue node steps bound`. A field has five digits at most, and
 -- within the limits a bound is at most 17 * 1030
 unfoldable pub boundLine : ℕ → End → List ℕ
 boundLine nodes e =

@@ -1,4 +1,4 @@
-// What the two programs do: a schedule on standard input, its log on standard output.
+// What the log programs do: a schedule on standard input, its log on standard output.
 use log::Kind;
 use log::Logged;
 use streams::Input;

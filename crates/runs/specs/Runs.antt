@@ -1,4 +1,4 @@
--- The starred worked runs of document 01, as one list: L 2, Q 1, N 4. The program case stands twice, for the second program too.
+-- The starred worked runs of document 01, as one list: L 2, Q 1, N 4. The program case stands twice, for the bounds log too.
 use Prim.Native.Nat.{ℕ}
 use Prim.Native.Char.{code}
 use Prim.Native.String.{String, [] as []ₛ, _∷_ as _∷ₛ_}
