@@ -1,4 +1,4 @@
--- The bounds: what an operation's steps are at most, while it runs and at its end, in the numbers of the requests.
+-- A queue has at most the table's nodes, and an operation that runs has taken fewer steps than its bound.
 use Prim.Native.Nat.{ℕ, _+_, _*_, _≤_, _<_}
 use mathlib.Core.Path.{_≡_}
 use mathlib.Core.Bool.{Bool, true, false, cond}
@@ -10,14 +10,17 @@ use Rattle.lists.specs.Count.{Same, same, apart, same?}
 use Rattle.lists.specs.Short.{once-short}
 use Rattle.state.specs.Step.{State}
 use Rattle.table.specs.Points.{Point, numberOf, E1, E2, E3, E4, E5, E6, E7, E8, E9, E10, E11, E12, E13, E14, E15, E16, E17, E18}
-use Rattle.table.specs.Points.{E19, E20, E21, E22, E23, E24, E25, E26, E27, E28, E29, D1, D2, D3, D4, D5, D6, D7, Unknown}
-use Rattle.invariant.specs.Sound.{Sound}
+use Rattle.words.specs.declared.Frame.{Frame}
+use Rattle.table.specs.Points.{E19, E20, E21, E22, E23, E24, E25, E26, E27, E28, E29, D1, D2, D3, D4, D5, D6, D7, Unknown, pointOf}
 use Rattle.invariant.proofs.Own.{own-le}
-use Rattle.costs.specs.Costs.{base, base-one, Turned, first, second, Spent, Few}
+use Rattle.invariant.proofs.Words.{early-at}
+use Rattle.costs.specs.Costs.{base, base-one, Turned, first, second, Spent}
+use Rattle.costs.specs.Bounds.{RunsBelow, FewNodes}
+use Rattle.costs.proofs.Rests.{found}
 
 -- ---- a queue has at most N nodes
 
-pub few-nodes : (s : Sizes) (q : ℕ) (W : State) (front : List ℕ) → Sound s q W front → Few s q (s .nodes) W
+pub few-nodes : (s : Sizes) (q : ℕ) (W : State) (front : List ℕ) → FewNodes s q W front
 few-nodes s q W front d xs h = once-short (s .nodes) xs (λ x. omega (arith, h x, own-le (s .queues) (W .mem .uses) q x))
     (λ x m. d .nodes x (omega (arith, h x, own-le (s .queues) (W .mem .uses) q x)))
 
@@ -33,7 +36,7 @@ base-le op = by (eqb op 2)
 
 module _ (top q v w l : ℕ) (next : ℕ → ℕ) (head op k m c s : ℕ) where
   -- a step less than at the end
-  pub record Low (p : Point) : Type 0 where
+  record Low (p : Point) : Type 0 where
     pub enqueue : op ≡ 1 → numberOf p < 31 → s ≤ l * w + v + 8
     pub dequeue : s ≤ l * w + v + 20
 
@@ -44,7 +47,7 @@ module _ (top q v w l : ℕ) (next : ℕ → ℕ) (head op k m c s : ℕ) where
   turned p i n h (first u) = record { enqueue = λ o z. absurd (omega arith); dequeue = omega arith }
   turned p i n h (second g u) = record { enqueue = λ o z. absurd (omega arith); dequeue = omega arith }
 
-  pub low : (p : Point) → Spent top q v w l next head op k m c s p → Low p
+  low : (p : Point) → Spent top q v w l next head op k m c s p → Low p
   low E1 (g, u) = upto E1 (l * w) 0 (omega arith) u
   low E2 (g, u) = upto E2 (l * w) 1 (omega arith) u
   low E3 (g, u) = upto E3 (k * w + w) 2 (omega arith) u
@@ -86,3 +89,20 @@ module _ (top q v w l : ℕ) (next : ℕ → ℕ) (head op k m c s : ℕ) where
   low D6 (g, u) = record { enqueue = λ o n. absurd (omega arith); dequeue = omega arith }
   low D7 u = record { enqueue = λ o n. absurd (omega arith); dequeue = omega arith }
   low Unknown u = absurd u
+
+pub runs-below : (s : Sizes) (q v : ℕ) (W : State) (front : List ℕ) → RunsBelow s q v W front
+runs-below s q v W front d paid l on =
+    record { enqueue = λ o. omega (arith, at .enqueue o (early o)); operation = omega (arith, at .dequeue) }
+  where
+    f : Frame
+    f = W .frames l
+
+    at : Low (s .levels) q v (v + 6) l (W .mem .next) (W .mem .head q) (f .op) (f .k .0) (f .m .0) (f .c .0) (f .steps)
+        (pointOf (f .point))
+    at =
+        low (s .levels) q v (v + 6) l (W .mem .next) (W .mem .head q) (f .op) (f .k .0) (f .m .0) (f .c .0) (f .steps)
+        (pointOf (f .point)) (paid l on)
+
+    -- an enqueue is at no D point
+    early : f .op ≡ 1 → numberOf (pointOf (f .point)) < 31
+    early o = let r = found l (d .pile) (d .listed l on) in rw (r .is) (early-at (r .point) (r .here) o)

@@ -30,7 +30,8 @@ use Rattle.invariant.proofs.Step.{turn, TopOf, top-is, on-top}
 use Rattle.invariant.proofs.Own.{own-le}
 use Rattle.invariant.proofs.Levels.{each}
 use Rattle.invariant.proofs.Begin.{begins}
-use Rattle.costs.specs.Costs.{Most, first, SpentBy, Paid, Few}
+use Rattle.costs.specs.Costs.{first, SpentBy, Paid}
+use Rattle.costs.specs.Bounds.{AtMost, Paying, StepKeeps}
 use Rattle.costs.proofs.Pays.{Fine, goes-on, has-ended, pays}
 use Rattle.costs.proofs.Rests.{found, closed, rests, links-stay, head-stays}
 
@@ -63,14 +64,7 @@ module _ (s : Sizes) (q v : ℕ) (U W : State) (S : List ℕ) {n : ℕ} {st : St
 
 -- ---- a step
 
--- the facts after a step of level l, and the bound where it ends the operation
-pub record Paying (s : Sizes) (q v l : ℕ) (W : State) : Type 0 where
-  pub paid : Paid s q v (stepped (s .levels) l W)
-  pub most : (n : Node) → then (W .mem) (rowOf (s .levels) l (W .frames l)) (counted (W .frames l)) ≡ Done n
-      → Most l v (v + 6) (W .frames l .op) (counted (W .frames l) .steps)
-
-pub paid-step : (s : Sizes) (q v : ℕ) (W : State) (front : List ℕ) → Sound s q W front → Few s q v W → Paid s q v W → (l : ℕ)
-    → l < s .levels → On q (W .frames l) → ((j : ℕ) → l < j → W .frames j .op ≡ 0) → Paying s q v l W
+pub paid-step : (s : Sizes) (q v : ℕ) (W : State) (front : List ℕ) → StepKeeps s q v W front
 unfolding counted
 paid-step s q v W front d few paid l low o idle = by (d .stack) (d .done) (on-top l idle (d .pile) (d .listed l o)) (d .stand) (d .listed)
   where
@@ -118,9 +112,9 @@ paid-step s q v W front d few paid l low o idle = by (d .stack) (d .done) (on-to
         mine _ (goes-on at u) z = rw at u
         mine _ (has-ended u) z = absurd (z .0 refl)
 
-        ended : (n : Node) (a : After) → Left a → a ≡ Done n → Most l v (v + 6) (f .op) (counted f .steps)
+        ended : (n : Node) (a : After) → Left a → a ≡ Done n → AtMost l v (f .op) (counted f .steps)
         ended n _ (goes-on at u) e = let z : _≡_ {A = ℕ} 0 1 = cc in absurd (omega arith)
-        ended n _ (has-ended u) e = u
+        ended n _ (has-ended u) e = record { enqueue = λ z. omega (arith, u .enqueue z); operation = omega (arith, u .dequeue) }
 
         theirs : (j : ℕ) → j ≢ l → On q (W .frames j)
             → SpentBy (s .levels) q v (v + 6) j (W′ .mem .next) (W′ .mem .head q) (W .frames j) (W .frames j .steps)

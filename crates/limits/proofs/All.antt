@@ -13,20 +13,19 @@ use Rattle.words.specs.Layout.{queue, node}
 use Rattle.answers.specs.Most.{enqueueMost, operationMost}
 use Rattle.table.specs.declared.After.the-variants.{Done}
 use Rattle.table.specs.Frames.{counted}
-use Rattle.table.specs.Points.{E1, D1, pointOf}
+use Rattle.table.specs.Points.{E1, D1}
 use Rattle.begins.specs.Begin.{begun}
 use Rattle.lists.specs.Count.{Same, same, apart, same?}
 use Rattle.state.specs.Step.{State, then, rowOf, stepped}
 use Rattle.state.specs.Queues.{On}
 use Rattle.invariant.specs.Sound.{Stepping}
 use Rattle.invariant.proofs.Step.{sound-step}
-use Rattle.invariant.proofs.Words.{early-at}
 use Rattle.demand.proofs.World.{World, IdleFrom, enqueueBegun, dequeueBegun}
 use Rattle.demand.proofs.Apart.{apart-step, apart-enqueue, apart-dequeue}
-use Rattle.costs.specs.Costs.{Most, Paid, Few}
-use Rattle.costs.proofs.Rests.{found}
-use Rattle.costs.proofs.Paid.{Paying, paid-step, paid-apart, paid-enqueue, paid-dequeue}
-use Rattle.costs.proofs.Bounds.{Low, low}
+use Rattle.costs.specs.Costs.{Paid, Few}
+use Rattle.costs.specs.Bounds.{Below, AtMost, Paying}
+use Rattle.costs.proofs.Paid.{paid-step, paid-apart, paid-enqueue, paid-dequeue}
+use Rattle.costs.proofs.Bounds.{runs-below}
 
 -- no queue has more than v nodes
 abbrev pub AllFew : Sizes → ℕ → State → Type 0
@@ -43,7 +42,7 @@ module _ (s : Sizes) (S : State) (fronts : ℕ → List ℕ) (w : World s S fron
   pub record Stepped (l : ℕ) : Type 0 where
     pub after : AllPaid s v (stepped (s .levels) l S)
     pub most : (n : Node) → then (S .mem) (rowOf (s .levels) l (S .frames l)) (counted (S .frames l)) ≡ Done n
-        → Most l v (v + 6) (S .frames l .op) (counted (S .frames l) .steps)
+        → AtMost l v (S .frames l .op) (counted (S .frames l) .steps)
 
   -- of queue q by its own move, and of the others because nothing of theirs moved
   pub all-step : AllFew s v S → (l q : ℕ) → l < s .levels → On q (S .frames l) → ((j : ℕ) → l < j → S .frames j .op ≡ 0) → Stepped l
@@ -99,29 +98,17 @@ module _ (s : Sizes) (S : State) (fronts : ℕ → List ℕ) (w : World s S fron
   -- ---- while they run
 
   module _ (j : ℕ) (runs : S .frames j .op ≢ 0) where
-    abbrev q : ℕ
-    q = S .frames j .queue .0
-
-    here : (1 ≤ S .frames j .queue .0) × (S .frames j .queue .0 ≤ s .queues)
-    here = w .on-some j runs
-
-    on : On (S .frames j .queue .0) (S .frames j)
-    on = (runs, refl)
-
-    bound : Low (s .levels) q v (v + 6) j (S .mem .next) (S .mem .head q) (S .frames j .op) (S .frames j .k .0) (S .frames j .m .0)
-        (S .frames j .c .0) (S .frames j .steps) (pointOf (S .frames j .point))
-    bound =
-        low (s .levels) q v (v + 6) j (S .mem .next) (S .mem .head q) (S .frames j .op) (S .frames j .k .0) (S .frames j .m .0)
-        (S .frames j .c .0) (S .frames j .steps) (pointOf (S .frames j .point)) (paid q (here .0) (here .1) j on)
+    below : Below j v (S .frames j .op) (S .frames j .steps)
+    below =
+        let q = S .frames j .queue .0 in
+        let here = w .on-some j runs in
+        runs-below s q v S (fronts q) (w .sound q (here .0) (here .1)) (paid q (here .0) (here .1)) j (runs, refl)
 
     pub enqueue-below : S .frames j .op ≡ 1 → S .frames j .steps < enqueueMost j v
-    enqueue-below o =
-        let d = w .sound q (here .0) (here .1) in
-        let r = found j (d .pile) (d .listed j on) in
-        omega (arith, bound .enqueue o (rw (r .is) (early-at (r .point) (r .here) o)))
+    enqueue-below o = below .enqueue o
 
     pub operation-below : S .frames j .steps < operationMost j v
-    operation-below = omega (arith, bound .dequeue)
+    operation-below = below .operation
 
     -- where the bound is not above 65,535, the steps word counts each step
     pub counts-each : operationMost j v ≤ 65535 → counted (S .frames j) .steps ≡ S .frames j .steps + 1

@@ -38,12 +38,11 @@ use Rattle.demand.proofs.Bridge.{saysOf, same-said, no-answer}
 use Rattle.demand.proofs.Steps.{StepAt, Outcome, idle, took, step-taken}
 use Rattle.demand.proofs.Begins.{can-enqueue, can-dequeue, enqueue-state, dequeue-state, enqueue-kept, dequeue-kept}
 use Rattle.demand.proofs.Kept.{step-of, run-of, accepted-kept}
-use Rattle.costs.specs.Costs.{Most}
 use Rattle.limits.specs.Course.{Effect, begins, steps, ends, ranFor, effect, begun as begunIn}
-use Rattle.limits.specs.Limits.{Capped}
+use Rattle.limits.specs.Limits.{Capped, InBounds}
 use Rattle.limits.proofs.All.{AllFew, AllPaid, all-step, all-enqueue, all-dequeue, counts-each}
 use Rattle.limits.proofs.Few.{few-table, few-still, Bounded, few-now, bounded-then}
-use Rattle.limits.proofs.Move.{Short, ServedAt, GoesOn, EndsAs, Move, begun as is-begun, goes, stops, rests}
+use Rattle.limits.proofs.Move.{ServedAt, GoesOn, EndsAs, Move, begun as is-begun, goes, stops, rests}
 
 -- what holds of a table on the way, where no queue has more than v nodes
 pub record Good (s : Sizes) (v : ℕ) (t : List ℕ) : Type 0 where
@@ -126,11 +125,10 @@ module _ (s : Sizes) (v : ℕ) (cap : Capped s) where
           steps-are = ap (λ (h : Frame). h .steps) is-g ∙ still .2 ∙ one;
         })
     by-after (Done n) e =
-        let m : Most l v (v + 6) (f .op) (counted f .steps) =
+        let most =
         all-step s (stateOf s t) (k .fronts) (k .world) v (k .paid) few l (f .queue .0) (a .low) (a .runs, refl) (a .highest) .most n e in
         stops l serves (ap (λ (h : Frame). h .op) (frame-then ∙ ap frameAfter e))
-        (record { level-is = refl; op = refl; queue-is = refl; steps-are = one })
-        (record { enqueue = λ o. omega (arith, m .enqueue o); operation = omega (arith, m .dequeue) })
+        (record { level-is = refl; op = refl; queue-is = refl; steps-are = one }) most
 
     pub step-moved : Moved t u (effect (was-stepped y))
     step-moved =
@@ -173,7 +171,7 @@ module _ (s : Sizes) (v : ℕ) (cap : Capped s) where
           steps-are = omega (arith, at-l .steps-are, g .steps-are);
         })
 
-    then-stops : (n : ℕ) (e : End) (i : ℕ) → i ≡ l → ServedAt (s .levels) G H i → H i .op ≡ 0 → EndsAs i (G i) n e → Short v e
+    then-stops : (n : ℕ) (e : End) (i : ℕ) → i ≡ l → ServedAt (s .levels) G H i → H i .op ≡ 0 → EndsAs i (G i) n e → InBounds v e
         → Move (s .levels) v F H (ends (1 + n) e)
     then-stops n e i z b gone x short =
         let at-l : EndsAs l (G l) n e = rw z at x in

@@ -9,15 +9,11 @@ use borrow.Author.Tests.{eq-eqb, ne-eqb, lt-ltb, le-ltb, ltb-true, ltb-false}
 use Rattle.words.specs.declared.Queue.{Queue}
 use Rattle.words.specs.declared.Frame.{Frame}
 use Rattle.answers.specs.declared.End.{End}
-use Rattle.answers.specs.Most.{enqueueMost, operationMost}
+use Rattle.answers.specs.Most.{operationMost}
 use Rattle.lists.specs.Count.{Same, same, apart, same?}
 use Rattle.limits.specs.Course.{Effect, begins, steps, ends, movesBy, begunBy, Course, running, over, next}
+use Rattle.limits.specs.Limits.{InBounds}
 use Rattle.limits.proofs.Sums.{total, total-but, total-part, total-none}
-
--- an end within the bounds, where no queue has more than v nodes
-pub record Short (v : ℕ) (e : End) : Type 0 where
-  pub enqueue : e .op ≡ 1 → e .steps ≤ enqueueMost (e .level .0) v
-  pub operation : e .steps ≤ operationMost (e .level .0) v
 
 -- the frames F became G: level l was served, the highest that runs, and the others stood still
 pub record ServedAt (levels : ℕ) (F G : ℕ → Frame) (l : ℕ) : Type 0 where
@@ -49,7 +45,8 @@ pub record Begins (levels : ℕ) (F G : ℕ → Frame) (l : ℕ) : Type 0 where
 pub data Move (levels v : ℕ) (F G : ℕ → Frame) : Effect → Type 0 where
   begun : (l : ℕ) → Begins levels F G l → Move levels v F G begins
   goes : {n : ℕ} (l : ℕ) → ServedAt levels F G l → GoesOn (F l) (G l) n → Move levels v F G (steps n)
-  stops : {n : ℕ} {e : End} (l : ℕ) → ServedAt levels F G l → G l .op ≡ 0 → EndsAs l (F l) n e → Short v e → Move levels v F G (ends n e)
+  stops : {n : ℕ} {e : End} (l : ℕ) → ServedAt levels F G l → G l .op ≡ 0 → EndsAs l (F l) n e → InBounds v e
+      → Move levels v F G (ends n e)
   rests : F ≡ G → Move levels v F G (steps 0)
 
 -- ---- one operation
@@ -103,7 +100,7 @@ pub record Runs (levels op l : ℕ) (q : Queue) (F : ℕ → Frame) (up own : �
 -- where an operation is that is followed
 abbrev pub Where : ℕ → ℕ → ℕ → Queue → ℕ → (ℕ → Frame) → Course → Type 0
 Where levels op l q v F (running up own) = Runs levels op l q F up own
-Where levels op l q v F (over own e) = (e .op ≡ op) × (e .level .0 ≡ l) × (e .queue ≡ q) × (e .steps ≡ own) × Short v e
+Where levels op l q v F (over own e) = (e .op ≡ op) × (e .level .0 ≡ l) × (e .queue ≡ q) × (e .steps ≡ own) × InBounds v e
 
 module _ (levels op l : ℕ) (q : Queue) (v : ℕ) (some : op ≢ 0) (low : l < levels) (F G : ℕ → Frame) where
   -- its frame stood still
@@ -178,7 +175,7 @@ module _ (levels op l : ℕ) (q : Queue) (v : ℕ) (some : op ≢ 0) (low : l < 
         above-are = omega (arith, moved i (b .low) (b .others), r .above-are);
       }
 
-  its-end : {own n : ℕ} {e : End} (i : ℕ) → i ≡ l → EndsAs i (F i) n e → Short v e → Runs levels op l q F 0 own
+  its-end : {own n : ℕ} {e : End} (i : ℕ) → i ≡ l → EndsAs i (F i) n e → InBounds v e → Runs levels op l q F 0 own
       → Where levels op l q v G (next (ends n e) (running 0 own))
   its-end {n = n} {e = e} i z x short r =
       let at-l : EndsAs l (F l) n e = rw z at x in (

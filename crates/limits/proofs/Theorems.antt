@@ -30,9 +30,10 @@ use Rattle.demand.proofs.Steps.{serving-is, serves-at}
 use Rattle.demand.proofs.Kept.{run-of}
 use Rattle.limits.specs.Course.{Effect, steps, ends, ranFor, effect, endsOf, moves, begun as begunIn}
 use Rattle.limits.specs.Course.{Course, running, over, next, course, since, ownSteps, Ended}
-use Rattle.limits.specs.Limits.{Capped, Each, Serves, EnqueueBelow, OperationBelow, EndsWithin, LimitsSuffice, EachCounted, Followed}
+use Rattle.limits.specs.Limits.{Capped, InBounds, Each, Serves}
+use Rattle.limits.specs.Limits.{EnqueueBelow, OperationBelow, EndsWithin, LimitsSuffice, EachCounted, Followed}
 use Rattle.limits.specs.Limits.{Within, EnqueueWithin, DequeueWithin, MovesWithin}
-use Rattle.limits.proofs.Move.{Short, Move, begun, goes, stops, rests, none-above, idle-above}
+use Rattle.limits.proofs.Move.{Move, begun, goes, stops, rests, none-above, idle-above}
 use Rattle.limits.proofs.Move.{Runs, Where, where-next, left, none-left, falls}
 use Rattle.limits.proofs.All.{enqueue-below, operation-below, counts-each}
 use Rattle.limits.proofs.Few.{few-table, Bounded, all-nodes, for-begins, few-fresh}
@@ -46,7 +47,7 @@ module _ (s : Sizes) (v : ℕ) (cap : Capped s) where
   last-good t w es k (also {u = u} {es = fs} m rest) = last-good u w fs (m .good) rest
 
   -- every end is within the bounds
-  pub end-short : (F G : ℕ → Frame) (x : Effect) (n : ℕ) (e : End) → x ≡ ends n e → Move (s .levels) v F G x → Short v e
+  pub end-short : (F G : ℕ → Frame) (x : Effect) (n : ℕ) (e : End) → x ≡ ends n e → Move (s .levels) v F G x → InBounds v e
   end-short F G _ n e z (begun i b) = let y : _≡_ {A = ℕ} 0 1 = cc in absurd (omega arith)
   end-short F G _ n e z (goes i b g) = let y : _≡_ {A = ℕ} 0 1 = cc in absurd (omega arith)
   end-short F G _ n e z (stops {e = d} i b gone x short) = let y : d ≡ e = cc in rw (← y) short
@@ -64,7 +65,7 @@ module _ (s : Sizes) (v : ℕ) (cap : Capped s) where
   each-call P (ran budget (after n refusal-10)) es h r = r
   each-call P asked es h r = r
 
-  each-short : (P : End → Type 0) → ((e : End) → Short v e → P e) → (t u : List ℕ) (es : List Event) → Moves s v cap t es u
+  each-short : (P : End → Type 0) → ((e : End) → InBounds v e → P e) → (t u : List ℕ) (es : List Event) → Moves s v cap t es u
       → Each P (endsOf es)
   each-short P f t u es (done h) = tt
   each-short P f t w es (also {u = u} {e = e} {es = fs} m rest) =
@@ -147,7 +148,7 @@ module _ (s : Sizes) (es : List Event) (t : List ℕ) where
       rw (← f) (operation-below s (stateOf s t) (k .fronts) (k .world) (s .nodes) (k .paid) (l .0) (rw f op))
 
   pub ends-within : EndsWithin s es t
-  ends-within r cap = each-short s (s .nodes) cap _ (λ e h. (h .enqueue, h .operation)) (r .1) t es (from-fresh r cap)
+  ends-within r cap = each-short s (s .nodes) cap _ (λ e h. h) (r .1) t es (from-fresh r cap)
 
   pub each-counted : EachCounted s es t
   each-counted l r cap low op =
@@ -197,7 +198,7 @@ record Begun (s : Sizes) (op : ℕ) (l : Level) (q : Queue) (u : List ℕ) : Typ
 -- and then any calls; with a bound on what runs as it and on what ends as it
 module _ (s : Sizes) (cap : Capped s) (op : ℕ) (l : Level) (q : Queue) (u : List ℕ) (b : Begun s op l q u) (most : ℕ)
     (below : (w : List ℕ) → Good s (s .nodes) w → frames s w (l .0) .op ≡ op → frames s w (l .0) .steps < most)
-    (short : (e : End) → e .op ≡ op → e .level .0 ≡ l .0 → Short (s .nodes) e → e .steps ≤ most)
+    (short : (e : End) → e .op ≡ op → e .level .0 ≡ l .0 → InBounds (s .nodes) e → e .steps ≤ most)
     (fs : List Event) (v : List ℕ) (h : History u fs v) where
   later : Moves s (s .nodes) cap u fs v
   later = history-moves s (s .nodes) cap u v fs (b .good) (all-nodes refl) h

@@ -17,6 +17,7 @@ use Rattle.begins.specs.Begin.{enqueueOf, dequeueOf}
 use Rattle.steps.specs.declared.Served.the-variants.{At}
 use Rattle.steps.specs.Step.{serving}
 use Rattle.steps.specs.Run.{runOf}
+use Rattle.costs.specs.Bounds.{AtMost}
 use Rattle.demand.specs.History.{Event, History}
 use Rattle.demand.specs.Demand.{Reached}
 use Rattle.limits.specs.Course.{endsOf, moves, begun, Course, running, over, since, ownSteps, Ended}
@@ -35,7 +36,7 @@ Each P (x ∷ xs) = P x × Each P xs
 
 -- the steps of an end are within its bounds, in a table of n nodes
 abbrev pub InBounds : ℕ → End → Type 0
-InBounds n e = (e .op ≡ 1 → e .steps ≤ enqueueMost (e .level .0) n) × (e .steps ≤ operationMost (e .level .0) n)
+InBounds n e = AtMost (e .level .0) n (e .op) (e .steps)
 
 -- ---- the words
 

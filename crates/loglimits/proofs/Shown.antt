@@ -1,5 +1,5 @@
--- The events of a schedule from fresh, played with two kinds of lines: the table on the way is one in which the cost facts hold, so each end
--- is within its bounds.
+-- The events of a schedule from fresh, played with two kinds of lines: the cost facts hold of every table on the way, so each end is
+-- within its bounds.
 use Prim.Native.Nat.{ℕ, zero, suc}
 use mathlib.Core.Path.{_≡_, refl, ap, _∙_, subst}
 use mathlib.Core.List.{List, [], _∷_}
@@ -18,15 +18,14 @@ use Rattle.demand.proofs.Steps.{Outcome, idle, took, step-taken}
 use Rattle.demand.proofs.Kept.{step-of}
 use Rattle.play.specs.Play.{Played, before, goOn, stepsOf, eventOf, follow, eventsOf}
 use Rattle.limits.specs.Course.{ends}
-use Rattle.limits.specs.Limits.{Capped}
-use Rattle.limits.proofs.Move.{Short}
+use Rattle.limits.specs.Limits.{Capped, InBounds}
 use Rattle.limits.proofs.Few.{few-table}
 use Rattle.limits.proofs.Calls.{Good, step-moved}
 use Rattle.limits.proofs.Theorems.{fresh-good, limits-suffice, end-short, good-then}
 use Rattle.loglimits.specs.Shown.{ShownWithin}
 
 -- P is what is known of an end
-module _ (s : Sizes) (cap : Capped s) (P : End → Type 0) (within : (e : End) → Short (s .nodes) e → P e) (line other : End → List ℕ)
+module _ (s : Sizes) (cap : Capped s) (P : End → Type 0) (within : (e : End) → InBounds (s .nodes) e → P e) (line other : End → List ℕ)
     (alike : (e : End) → P e → line e ≡ other e) where
   -- the same is played, and what holds of the table still holds unless it is refused
   record Alike (p r : Played) : Type 0 where
@@ -89,5 +88,6 @@ module _ (s : Sizes) (lent t : List ℕ) (i : ℕ) (es : List Event) where
   pub shown-within : ShownWithin s lent t i es
   shown-within fresh line other alike =
       let cap = limits-suffice s [] t (lent, t, fresh, none refl) in
-      alike-events s cap _ (λ e h. ((λ o. omega (arith, h .enqueue o)), omega (arith, h .operation))) line other alike i es t
+      alike-events s cap _ (λ e h. record { enqueue = λ o. omega (arith, h .enqueue o); operation = omega (arith, h .operation) })
+      line other alike i es t
       (fresh-good s (s .nodes) t (freshly s lent t fresh))
