@@ -1,5 +1,5 @@
 #!/usr/bin/env python3
-"""Holds second/bench.py to the worked runs, and examples/README.md and docs/SCHEDULE.md to second/bench.py.
+"""Holds second/bench.py to the worked runs, and examples/README.md, docs/SCHEDULE.md and docs/BOUNDS.md to second/bench.py.
 
     second/selftest.py
 """
@@ -58,6 +58,12 @@ def texts():
     return [(text.replace("\\n", "\n").replace("\\r", "\r").encode(), log.replace("` `", "\n") + "\n") for text, log in rows]
 
 
+def bounded():
+    """The name and the bounds log of each example that docs/BOUNDS.md shows."""
+    with open(HERE + "/../docs/BOUNDS.md") as page:
+        return re.findall(r"^\[examples/([a-z0-9-]+)\.schedule\].*?^```\n(.*?)^```$", page.read(), re.M | re.S)
+
+
 def differing():
     for bounds, runs in ((False, RUNS), (True, BOUNDED)):
         for name, events, log in runs:
@@ -68,11 +74,14 @@ def differing():
     stored = [each[:-9] for each in os.listdir(HERE + "/../examples") if each.endswith(".schedule")]
     if sorted(stored) != sorted(name for name, _ in shown):
         yield "examples/README.md does not show each example once"
-    for name, log in shown:
-        with open(f"{HERE}/../examples/{name}.schedule", "rb") as text:
-            got = log_of(text.read()).decode()
-        if got != log:
-            yield f"examples/{name}.schedule: {got!r}"
+    if not bounded():
+        yield "docs/BOUNDS.md shows no bounds log"
+    for bounds, pairs in ((False, shown), (True, bounded())):
+        for name, log in pairs:
+            with open(f"{HERE}/../examples/{name}.schedule", "rb") as text:
+                got = log_of(text.read(), bounds).decode()
+            if got != log:
+                yield f"examples/{name}.schedule{' with bounds' if bounds else ''}: {got!r}"
     for text, log in texts():
         got = log_of(text).decode()
         if got != log:
