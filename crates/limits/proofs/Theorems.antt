@@ -9,7 +9,7 @@ use Rattle.words.specs.declared.Level.{Level}
 use Rattle.words.specs.declared.Queue.{Queue}
 use Rattle.words.specs.declared.Sizes.{Sizes}
 use Rattle.words.specs.declared.Frame.{Frame}
-use Rattle.words.specs.Layout.{level, node}
+use Rattle.words.specs.Layout.{level, node, frameOf}
 use Rattle.words.specs.Laws.{measured-limits}
 use Rattle.answers.specs.declared.End.{End}
 use Rattle.answers.specs.Said.{says, going-on, ended, Why, after, an-end, spent, nothing-runs, refusal-10}
@@ -29,11 +29,11 @@ use Rattle.demand.proofs.Begins.{CanEnqueue, CanDequeue, can-enqueue, can-deque
 use Rattle.demand.proofs.Steps.{serving-is, serves-at}
 use Rattle.demand.proofs.Kept.{run-of}
 use Rattle.limits.specs.Course.{Effect, steps, ends, ranFor, effect, endsOf, moves, begun as begunIn}
-use Rattle.limits.specs.Course.{Course, running, over, next, course, since, ownSteps, Ended}
+use Rattle.limits.specs.Course.{Course, running, over, next, course, ownSteps, Ended}
 use Rattle.limits.specs.Limits.{Capped, InBounds, Each, Serves}
 use Rattle.limits.specs.Limits.{EnqueueBelow, OperationBelow, EndsWithin, LimitsSuffice, EachCounted, Followed}
-use Rattle.limits.specs.Limits.{Within, EnqueueWithin, DequeueWithin, MovesWithin}
-use Rattle.limits.proofs.Move.{Move, begun, goes, stops, rests, none-above, idle-above}
+use Rattle.limits.specs.Limits.{Within, EnqueueWithin, DequeueWithin, EnqueueFrom, DequeueFrom, MovesWithin}
+use Rattle.limits.proofs.Move.{Move, begun, goes, stops, rests, aboveIn, none-above, idle-above}
 use Rattle.limits.proofs.Move.{Runs, Where, where-next, left, none-left, falls}
 use Rattle.limits.proofs.All.{enqueue-below, operation-below, counts-each}
 use Rattle.limits.proofs.Few.{few-table, Bounded, all-nodes, for-begins, few-fresh}
@@ -188,15 +188,16 @@ pub good-then : (s : Sizes) (cap : Capped s) (t u : List ℕ) (e : Event) → Go
 good-then s cap t u e k a =
     accepted-moved s (s .nodes) cap t u e k (few-table s (stateOf s t) (k .fronts) (k .world)) a .good
 
--- it has begun in table u
-record Begun (s : Sizes) (op : ℕ) (l : Level) (q : Queue) (u : List ℕ) : Type 0 where
+-- it runs in table u, so many run above it, and so many steps were its own
+record Underway (s : Sizes) (op : ℕ) (l : Level) (q : Queue) (u : List ℕ) (above own : ℕ) : Type 0 where
   pub some : op ≢ 0
   pub low : l .0 < s .levels
   pub good : Good s (s .nodes) u
-  pub runs : Runs (s .levels) op (l .0) q (frames s u) 0 0
+  pub runs : Runs (s .levels) op (l .0) q (frames s u) above own
 
 -- and then any calls; with a bound on what runs as it and on what ends as it
-module _ (s : Sizes) (cap : Capped s) (op : ℕ) (l : Level) (q : Queue) (u : List ℕ) (b : Begun s op l q u) (most : ℕ)
+module _ (s : Sizes) (cap : Capped s) (op : ℕ) (l : Level) (q : Queue) (u : List ℕ) (above had : ℕ) (b : Underway s op l q u above had)
+    (most : ℕ)
     (below : (w : List ℕ) → Good s (s .nodes) w → frames s w (l .0) .op ≡ op → frames s w (l .0) .steps < most)
     (short : (e : End) → e .op ≡ op → e .level .0 ≡ l .0 → InBounds (s .nodes) e → e .steps ≤ most)
     (fs : List Event) (v : List ℕ) (h : History u fs v) where
@@ -206,8 +207,11 @@ module _ (s : Sizes) (cap : Capped s) (op : ℕ) (l : Level) (q : Queue) (u : Li
   now : Good s (s .nodes) v
   now = last-good s (s .nodes) cap u v fs (b .good) later
 
-  it-is : Where (s .levels) op (l .0) q (s .nodes) (frames s v) (since fs)
-  it-is = where-then s (s .nodes) cap op (l .0) q (b .some) (b .low) u v fs (running 0 0) later (b .runs)
+  abbrev c : Course
+  c = course fs (running above had)
+
+  it-is : Where (s .levels) op (l .0) q (s .nodes) (frames s v) c
+  it-is = where-then s (s .nodes) cap op (l .0) q (b .some) (b .low) u v fs (running above had) later (b .runs)
 
   serves : (up own : ℕ) → Runs (s .levels) op (l .0) q (frames s v) up own → Serves s v l up
   serves up own r = (mine, none)
@@ -239,7 +243,7 @@ module _ (s : Sizes) (cap : Capped s) (op : ℕ) (l : Level) (q : Queue) (u : Li
   has-ended (over own e) f enough = tt
 
   -- a run from there
-  module _ (own budget : ℕ) (alone : since fs ≡ running 0 own) (enough : most ≤ own + budget) where
+  module _ (own budget : ℕ) (alone : c ≡ running 0 own) (enough : most ≤ own + budget) where
     x : Ran s (s .nodes) cap budget 0 v
     x = run-moved s (s .nodes) cap budget 0 v now (few-table s (stateOf s v) (now .fronts) (now .world))
 
@@ -268,16 +272,34 @@ module _ (s : Sizes) (cap : Capped s) (op : ℕ) (l : Level) (q : Queue) (u : Li
             let at = after-run (steps (x .count)) (m .move) in absurd (b .some (sym (at .op-is) ∙ z (l .0)))
         by refusal-10 is m z = absurd z
 
-  is-within : Within s op l q most fs v
-  is-within =
-      let f = follows (since fs) it-is in
-      record { followed = f; ends = has-ended (since fs) f; runs = run-ends }
+  is-within : Within s op l q most c v
+  is-within = let f = follows c it-is in record { followed = f; ends = has-ended c f; runs = run-ends }
 
+-- an enqueue, and a dequeue
+module _ (s : Sizes) (cap : Capped s) (l : Level) (q : Queue) (u : List ℕ) (above own : ℕ) (fs : List Event) (v : List ℕ)
+    (h : History u fs v) where
+  enqueue-in : (most : ℕ) → enqueueMost (l .0) (s .nodes) ≤ most → Underway s 1 l q u above own
+      → Within s 1 l q most (course fs (running above own)) v
+  enqueue-in most m b =
+      is-within s cap 1 l q u above own b most (λ w k o. omega (arith, below w k o))
+      (λ e o i short. omega (arith, rw i at (short .enqueue o))) fs v h
+    where
+      below : (w : List ℕ) → Good s (s .nodes) w → frames s w (l .0) .op ≡ 1 → frames s w (l .0) .steps < enqueueMost (l .0) (s .nodes)
+      below w k o = enqueue-below s (stateOf s w) (k .fronts) (k .world) (s .nodes) (k .paid) (l .0) (λ z. omega arith) o
+
+  dequeue-in : (most : ℕ) → operationMost (l .0) (s .nodes) ≤ most → Underway s 2 l q u above own
+      → Within s 2 l q most (course fs (running above own)) v
+  dequeue-in most m b =
+      is-within s cap 2 l q u above own b most (λ w k o. omega (arith, below w k o))
+      (λ e o i short. omega (arith, rw i at (short .operation))) fs v h
+    where
+      below : (w : List ℕ) → Good s (s .nodes) w → frames s w (l .0) .op ≡ 2 → frames s w (l .0) .steps < operationMost (l .0) (s .nodes)
+      below w k o = operation-below s (stateOf s w) (k .fronts) (k .world) (s .nodes) (k .paid) (l .0) (λ z. omega arith)
+
+-- from its begin
 module _ (s : Sizes) (es : List Event) (t : List ℕ) (l : Level) (q : Queue) (u : List ℕ) (fs : List Event) (v : List ℕ) where
   pub enqueue-within : EnqueueWithin s es t l q u fs v
-  enqueue-within n r cap h later =
-      is-within s cap 1 l q u begun _ (λ w k o. omega (arith, below w k o))
-      (λ e o i short. omega (arith, rw i at (short .enqueue o))) fs v later
+  enqueue-within n r cap h later = enqueue-in s cap l q u 0 0 fs v later _ (omega arith) begun
     where
       k : Good s (s .nodes) t
       k = here s es t r cap
@@ -285,7 +307,7 @@ module _ (s : Sizes) (es : List Event) (t : List ℕ) (l : Level) (q : Queue) (u
       c : CanEnqueue s t l q n u
       c = can-enqueue s t (k .sized) l q n u h
 
-      begun : Begun s 1 l q u
+      begun : Underway s 1 l q u 0 0
       begun =
           record {
             some = omega arith;
@@ -294,13 +316,8 @@ module _ (s : Sizes) (es : List Event) (t : List ℕ) (l : Level) (q : Queue) (u
             runs = runs-begun s t u l q (frameBegun 1 E1 q n) (c .idle) (c .frames-are) refl refl;
           }
 
-      below : (w : List ℕ) → Good s (s .nodes) w → frames s w (l .0) .op ≡ 1 → frames s w (l .0) .steps < enqueueMost (l .0) (s .nodes)
-      below w k o = enqueue-below s (stateOf s w) (k .fronts) (k .world) (s .nodes) (k .paid) (l .0) (λ z. omega arith) o
-
   pub dequeue-within : DequeueWithin s es t l q u fs v
-  dequeue-within r cap h later =
-      is-within s cap 2 l q u begun _ (λ w k o. omega (arith, below w k o))
-      (λ e o i short. omega (arith, rw i at (short .operation))) fs v later
+  dequeue-within r cap h later = dequeue-in s cap l q u 0 0 fs v later _ (omega arith) begun
     where
       k : Good s (s .nodes) t
       k = here s es t r cap
@@ -308,7 +325,7 @@ module _ (s : Sizes) (es : List Event) (t : List ℕ) (l : Level) (q : Queue) (u
       c : CanDequeue s t l q u
       c = can-dequeue s t (k .sized) l q u h
 
-      begun : Begun s 2 l q u
+      begun : Underway s 2 l q u 0 0
       begun =
           record {
             some = omega arith;
@@ -317,5 +334,32 @@ module _ (s : Sizes) (es : List Event) (t : List ℕ) (l : Level) (q : Queue) (u
             runs = runs-begun s t u l q (frameBegun 2 D1 q (node 0)) (c .idle) (c .frames-are) refl refl;
           }
 
-      below : (w : List ℕ) → Good s (s .nodes) w → frames s w (l .0) .op ≡ 2 → frames s w (l .0) .steps < operationMost (l .0) (s .nodes)
-      below w k o = operation-below s (stateOf s w) (k .fronts) (k .world) (s .nodes) (k .paid) (l .0) (λ z. omega arith)
+-- from any moment at which it runs
+module _ (s : Sizes) (es : List Event) (t : List ℕ) (l : Level) where
+  abbrev above : ℕ
+  above = aboveIn (s .levels) (l .0) (frames s t)
+
+  underway : (op : ℕ) → op ≢ 0 → Reached s es t → Capped s → l .0 < s .levels → frameOf s t l .op ≡ op
+      → Underway s op l (frameOf s t l .queue) t above (frameOf s t l .steps)
+  underway op some r cap low e =
+      let f = frame-is s t (l .0) low in
+      record {
+        some = some;
+        low = low;
+        good = here s es t r cap;
+        runs = record { op-is = rw f e; queue-is = rw f; steps-are = rw f; above-are = refl };
+      }
+
+  pub enqueue-from : EnqueueFrom s es t l
+  enqueue-from r cap low e = (
+    above,
+    λ fs v h. enqueue-in s cap l (frameOf s t l .queue) t above (frameOf s t l .steps) fs v h _ (omega arith)
+        (underway 1 (omega arith) r cap low e),
+  )
+
+  pub dequeue-from : DequeueFrom s es t l
+  dequeue-from r cap low e = (
+    above,
+    λ fs v h. dequeue-in s cap l (frameOf s t l .queue) t above (frameOf s t l .steps) fs v h _ (omega arith)
+        (underway 2 (omega arith) r cap low e),
+  )

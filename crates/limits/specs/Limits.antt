@@ -20,7 +20,7 @@ use Rattle.steps.specs.Run.{runOf}
 use Rattle.costs.specs.Bounds.{AtMost}
 use Rattle.demand.specs.History.{Event, History}
 use Rattle.demand.specs.Demand.{Reached}
-use Rattle.limits.specs.Course.{endsOf, moves, begun, Course, running, over, since, ownSteps, Ended}
+use Rattle.limits.specs.Course.{endsOf, moves, begun, Course, running, over, course, since, ownSteps, Ended}
 
 -- the steps word counts no further
 abbrev pub cap : ℕ
@@ -80,13 +80,13 @@ Followed s op l q most v (running above own) =
     (frameOf s v l .op ≡ op) × (frameOf s v l .queue ≡ q) × (frameOf s v l .steps ≡ own) × (own < most) × Serves s v l above
 Followed s op l q most v (over own e) = (e .op ≡ op) × (e .level ≡ l) × (e .queue ≡ q) × (e .steps ≡ own) × (own ≤ most)
 
--- It ends within its bound, after the calls fs that led to table v.
-pub record Within (s : Sizes) (op : ℕ) (l : Level) (q : Queue) (most : ℕ) (fs : List Event) (v : List ℕ) : Type 0 where
-  pub followed : Followed s op l q most v (since fs)
+-- It ends within its bound; c is its course up to table v.
+pub record Within (s : Sizes) (op : ℕ) (l : Level) (q : Queue) (most : ℕ) (c : Course) (v : List ℕ) : Type 0 where
+  pub followed : Followed s op l q most v c
   -- under every schedule that keeps stepping it: once so many steps were its own, it has ended
-  pub ends : most ≤ ownSteps (since fs) → Ended (since fs)
+  pub ends : most ≤ ownSteps c → Ended c
   -- and nothing refuses it those steps: where nothing runs above it, a run with what is left of the bound ends it
-  pub runs : (own budget : ℕ) → since fs ≡ running 0 own → most ≤ own + budget
+  pub runs : (own budget : ℕ) → c ≡ running 0 own → most ≤ own + budget
       → (n : ℕ) × (e : End) × (w : List ℕ) × (runOf budget v ≡ (says (after n (an-end e)), w))
       × (e .op ≡ op) × (e .level ≡ l) × (e .queue ≡ q) × (e .steps ≡ own + n)
 
@@ -95,13 +95,27 @@ module _ (s : Sizes) (es : List Event) (t : List ℕ) (l : Level) (q : Queue) (u
   abbrev pub EnqueueWithin : Type 0
   EnqueueWithin =
       (n : Node) → Reached s es t → Capped s → enqueueOf t l q n ≡ (says tt, u) → History u fs v
-      → Within s 1 l q (enqueueMost (l .0) (s .nodes)) fs v
+      → Within s 1 l q (enqueueMost (l .0) (s .nodes)) (since fs) v
 
   -- A dequeue likewise within (l + 1) × (N + 6) + 15, the enqueue of its sentinel included.
   abbrev pub DequeueWithin : Type 0
   DequeueWithin =
       Reached s es t → Capped s → dequeueOf t l q ≡ (says tt, u) → History u fs v
-      → Within s 2 l q (operationMost (l .0) (s .nodes)) fs v
+      → Within s 2 l q (operationMost (l .0) (s .nodes)) (since fs) v
+
+module _ (s : Sizes) (es : List Event) (t : List ℕ) (l : Level) where
+  -- From any moment at which an enqueue runs at level l, with some number of operations running above it, and then any calls.
+  abbrev pub EnqueueFrom : Type 0
+  EnqueueFrom =
+      Reached s es t → Capped s → l .0 < s .levels → frameOf s t l .op ≡ 1
+      → (above : ℕ) × ((fs : List Event) (v : List ℕ) → History t fs v
+      → Within s 1 l (frameOf s t l .queue) (enqueueMost (l .0) (s .nodes)) (course fs (running above (frameOf s t l .steps))) v)
+
+  abbrev pub DequeueFrom : Type 0
+  DequeueFrom =
+      Reached s es t → Capped s → l .0 < s .levels → frameOf s t l .op ≡ 2
+      → (above : ℕ) × ((fs : List Event) (v : List ℕ) → History t fs v
+      → Within s 2 l (frameOf s t l .queue) (operationMost (l .0) (s .nodes)) (course fs (running above (frameOf s t l .steps))) v)
 
 -- ---- a whole history
 
