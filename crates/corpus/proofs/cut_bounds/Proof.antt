@@ -25,7 +25,9 @@ add-left c = ⊎-elim (λ w. omega arith) (λ w. omega arith) (c .before .if2 .c
 
 loop-again : tie.Need-loop-again Inv-loop μ-loop
 loop-again c =
-    let before : (c .before .before .if1 .space) ≤ (c .before .before .before .before .before .loop .left) = ⊎-elim (λ w. omega arith) (λ w. omega arith) (c .before .before .if1 .came) in
+    let space = c .before .before .if1 .space in
+    let left = c .before .before .before .before .before .loop .left in
+    let within : space ≤ left = ⊎-elim (λ w. omega arith) (λ w. omega arith) (c .before .before .if1 .came) in
     ⊎-elim (λ w. search needs) (λ w. search needs) (c .before .if2 .came)
 
 pub cut-bounds-spec : {M : Type 1} → statement M

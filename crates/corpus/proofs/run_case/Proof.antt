@@ -7,7 +7,10 @@ use Rattle.corpus.proofs.run_case.Statement.{statement}
 use Rattle.corpus.proofs.run_case.Tie as tie
 
 slice-aggregate-write-all : tie.Need-slice-aggregate-write-all
-slice-aggregate-write-all c = let h : 41 ≤ length (c .before .before .before .before .before .before .before .before .before .read-full .last .1 .0) = search needs in sym (length-take-le 41 (c .before .before .before .before .before .before .before .before .before .read-full .last .1 .0) h)
+slice-aggregate-write-all c =
+    let header = c .before .before .before .before .before .before .before .before .before .read-full .last .1 .0 in
+    let long : 41 ≤ length header = search needs in
+    sym (length-take-le 41 header long)
 
 slice-aggregate-write-logs : tie.Need-slice-aggregate-write-logs
 slice-aggregate-write-logs c = sym (length-take-le _ _ (c .before .before .before .before .before .before .before .read-text .ensures))

@@ -6,7 +6,9 @@ use Rattle.corpus.proofs.run_cases.Statement.{statement}
 use Rattle.corpus.proofs.run_cases.Tie as tie
 
 abbrev Inv-loop : tie.InvT-loop
-Inv-loop text₀ table₀ room₀ second₀ i₀ text table room second i = (i ≤ 65536) × (length text ≡ length text₀) × (length table ≡ length table₀) × (length room ≡ length room₀) × (length second ≡ length second₀)
+Inv-loop text₀ table₀ room₀ second₀ i₀ text table room second i =
+    (i ≤ 65536) × (length text ≡ length text₀) × (length table ≡ length table₀) × (length room ≡ length room₀)
+    × (length second ≡ length second₀)
 
 abbrev μ-loop : tie.MeasureT-loop
 μ-loop text₀ table₀ room₀ second₀ i₀ text table room second i = 65536 - i

@@ -6,7 +6,14 @@ use Rattle.loglines.proofs.put_operation.Tie as tie
 
 returns : tie.Need-returns
 unfolding operationText
-returns c = ink-then _ _ _ (c .before .before .before .before .before .before .before .before .before .before .before .before .before .before .before .before .before .put-letter .ensures) (ink-then _ _ _ (c .before .before .before .before .before .before .before .before .before .before .before .before .put-field .ensures) (ink-then _ _ _ (c .before .before .before .before .before .before .before .put-field2 .ensures) (c .before .before .put-field3 .ensures)))
+returns c =
+    let c8 = c .before .before .before .before .before .before .before .before in
+    let c16 = c8 .before .before .before .before .before .before .before .before in
+    let put-letter = c16 .before .put-letter .ensures in
+    let put-field = c8 .before .before .before .before .put-field .ensures in
+    let put-field2 = c .before .before .before .before .before .before .before .put-field2 .ensures in
+    let put-field3 = c .before .before .put-field3 .ensures in
+    ink-then _ _ _ put-letter (ink-then _ _ _ put-field (ink-then _ _ _ put-field2 put-field3))
 
 pub put-operation-spec : {M : Type 1} → statement M
 put-operation-spec =
