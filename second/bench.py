@@ -245,6 +245,11 @@ def read_schedule(text):
 # The bench: begins, steps and their refusals, and the log.
 
 
+def enqueue_most(level, nodes):
+    """The bound on an enqueue's own steps, which the bounds log shows."""
+    return (level + 2) * (nodes + 6)
+
+
 class Operation:
     def __init__(self, letter, level, queue, node, code):
         self.letter, self.level, self.queue, self.node = letter, level, queue, node
@@ -311,7 +316,7 @@ class Bench:
             self.running.pop()
             words = [top.letter, top.level, top.queue, top.node, top.steps]
             if self.bounds and top.letter == "E":
-                words.append((top.level + 2) * (self.nodes + 6))
+                words.append(enqueue_most(top.level, self.nodes))
             self.log.append(" ".join(map(str, words)))
 
     def show(self, queue):

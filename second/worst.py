@@ -15,7 +15,7 @@ import re
 import sys
 import time
 
-from bench import LIMIT, Bench
+from bench import LIMIT, Bench, enqueue_most
 from selftest import schedule
 from wrong_tables import RIGHT, Frame, Table
 
@@ -24,8 +24,8 @@ SIZES = [(1, 1, 2), (1, 1, 3), (1, 1, 4), (1, 1, 5), (1, 1, 6), (2, 1, 3), (2, 1
 
 
 def most(letter, level, N):
-    """The bound, as crates/answers/specs/Most.antt has it."""
-    return (level + 2) * (N + 6) if letter == "E" else (level + 1) * (N + 6) + 15
+    """The bound on the own steps of an enqueue or a dequeue."""
+    return enqueue_most(level, N) if letter == "E" else (level + 1) * (N + 6) + 15
 
 
 class Failed(Exception):

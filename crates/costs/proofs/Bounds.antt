@@ -14,8 +14,9 @@ use Rattle.words.specs.declared.Frame.{Frame}
 use Rattle.table.specs.Points.{E19, E20, E21, E22, E23, E24, E25, E26, E27, E28, E29, D1, D2, D3, D4, D5, D6, D7, Unknown, pointOf}
 use Rattle.invariant.proofs.Own.{own-le}
 use Rattle.invariant.proofs.Words.{early-at}
-use Rattle.costs.specs.Costs.{base, base-one, Turned, first, second, Spent}
+use Rattle.costs.specs.Costs.{base, Turned, first, second, Spent}
 use Rattle.costs.specs.Bounds.{RunsBelow, FewNodes}
+use Rattle.costs.proofs.Pays.{base-one}
 use Rattle.costs.proofs.Rests.{found}
 
 -- ---- a queue has at most N nodes

@@ -7,6 +7,7 @@ use mathlib.Core.List.{List, [], _∷_, _++_}
 use native.Mathlib.Omega.{arith}
 use lib.Dec.{eqb}
 use lib.ListN.{length, length-append}
+use borrow.Author.Tests.{eq-eqb, ne-eqb}
 use Rattle.words.specs.declared.Frame.{Frame}
 use Rattle.words.specs.declared.Node.{Node}
 use Rattle.words.specs.Layout.{level}
@@ -28,8 +29,17 @@ use Rattle.invariant.specs.Facts.{Hot, is-loose, is-owner, e8, e9, e14, e15, e1
 use Rattle.invariant.proofs.Keep.{aim-first}
 use Rattle.invariant.proofs.Below.{hot-start, start-own, tail-in, shows, nobody}
 use Rattle.invariant.proofs.Turn.{Turn, At, Below, Lists, HotBelow}
-use Rattle.costs.specs.Costs.{Ends, base, base-two, base-one, Most, Walked, Turned, first, second, SpentBy}
+use Rattle.costs.specs.Costs.{Ends, base, Most, Walked, Turned, first, second, SpentBy}
 use Rattle.costs.proofs.Ends.{ends-some, ends-next, ends-at, ends-add, along, follows, walk-ends}
+
+-- what was taken before the node is handed in
+base-two : (op : ℕ) → op ≡ 2 → base op ≡ 6
+unfolding base
+base-two op e = rw (eq-eqb op 2 e)
+
+pub base-one : (op : ℕ) → op ≢ 2 → base op ≡ 0
+unfolding base
+base-one op e = rw (ne-eqb op 2 e)
 
 -- a level less
 down : (k w : ℕ) → k ≢ 0 → (k - 1) * w + w ≡ k * w

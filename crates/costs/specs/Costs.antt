@@ -11,7 +11,6 @@ use mathlib.Core.Bool.{cond}
 use mathlib.Core.List.{List}
 use lib.Dec.{eqb}
 use lib.ListN.{length}
-use borrow.Author.Tests.{eq-eqb, ne-eqb}
 use Rattle.words.specs.declared.Sizes.{Sizes}
 use Rattle.words.specs.declared.Frame.{Frame}
 use Rattle.lists.specs.Count.{cnt}
@@ -29,14 +28,6 @@ pub data Ends (next : ℕ → ℕ) : ℕ → ℕ → Type 0 where
 -- what a dequeue has taken when it hands in its sentinel: D1 to D6
 unfoldable pub base : ℕ → ℕ
 base op = cond (eqb op 2) 6 0
-
-pub base-two : (op : ℕ) → op ≡ 2 → base op ≡ 6
-unfolding base
-base-two op e = rw (eq-eqb op 2 e)
-
-pub base-one : (op : ℕ) → op ≢ 2 → base op ≡ 0
-unfolding base
-base-one op e = rw (ne-eqb op 2 e)
 
 -- the steps s of an operation at its end, at level l
 pub record Most (l v w op s : ℕ) : Type 0 where

@@ -55,10 +55,7 @@ pub record Good (s : Sizes) (v : ℕ) (t : List ℕ) : Type 0 where
 
 -- the bound of every level is below that of level L
 pub most-below : (s : Sizes) (v j : ℕ) → j < s .levels → operationMost j v ≤ s .levels * (v + 6) + 15
-most-below s v j low = omega (arith, mul-le-mul-right (v + 6) (below j low))
-  where
-    below : (j : ℕ) → j < s .levels → j + 1 ≤ s .levels
-    below j low = omega arith
+most-below s v j low = let up : j + 1 ≤ s .levels = omega arith in omega (arith, mul-le-mul-right (v + 6) up)
 
 module _ (s : Sizes) (v : ℕ) (cap : Capped s) where
   -- a call from t to u with this effect

@@ -65,13 +65,11 @@ module _ (s : Sizes) (v : ℕ) (cap : Capped s) where
   each-call P (ran budget (after n refusal-10)) es h r = r
   each-call P asked es h r = r
 
-  each-short : (P : End → Type 0) → ((e : End) → InBounds v e → P e) → (t u : List ℕ) (es : List Event) → Moves s v cap t es u
-      → Each P (endsOf es)
-  each-short P f t u es (done h) = tt
-  each-short P f t w es (also {u = u} {e = e} {es = fs} m rest) =
-      let first : (n : ℕ) (d : End) → effect e ≡ ends n d → P d =
-      λ n d z. f d (end-short (frames s t) (frames s u) (effect e) n d z (m .move)) in
-      each-call P e (endsOf fs) first (each-short P f u w fs rest)
+  each-short : (t u : List ℕ) (es : List Event) → Moves s v cap t es u → Each (InBounds v) (endsOf es)
+  each-short t u es (done h) = tt
+  each-short t w es (also {u = u} {e = e} {es = fs} m rest) =
+      each-call (InBounds v) e (endsOf fs) (λ n d z. end-short (frames s t) (frames s u) (effect e) n d z (m .move))
+      (each-short u w fs rest)
 
   -- one operation
   where-then : (op l : ℕ) (q : Queue) → op ≢ 0 → l < s .levels → (t u : List ℕ) (es : List Event) (c : Course) → Moves s v cap t es u
@@ -123,9 +121,6 @@ module _ (s : Sizes) (es : List Event) (t : List ℕ) where
       omega (arith, mul-le-mul levels nodes)
 
   module _ (r : Reached s es t) (cap : Capped s) where
-    fresh : List ℕ
-    fresh = r .1
-
     start : Freshly s (r .1)
     start = freshly s (r .0) (r .1) (r .2)
 
@@ -148,7 +143,7 @@ module _ (s : Sizes) (es : List Event) (t : List ℕ) where
       rw (← f) (operation-below s (stateOf s t) (k .fronts) (k .world) (s .nodes) (k .paid) (l .0) (rw f op))
 
   pub ends-within : EndsWithin s es t
-  ends-within r cap = each-short s (s .nodes) cap _ (λ e h. h) (r .1) t es (from-fresh r cap)
+  ends-within r cap = each-short s (s .nodes) cap (r .1) t es (from-fresh r cap)
 
   pub each-counted : EachCounted s es t
   each-counted l r cap low op =

@@ -26,7 +26,7 @@ use Rattle.limits.specs.Course.{endsOf, moves, begun, Course, running, o
 abbrev pub cap : ℕ
 cap = 65535
 
--- all that document 01's limits are needed for: no bound comes near the cap
+-- all that document 01's limits are needed for: (L + 1) × (N + 6) + 15 is below the cap, and so is every bound
 abbrev pub Capped : Sizes → Type 0
 Capped s = operationMost (s .levels) (s .nodes) < cap
 

@@ -113,12 +113,22 @@ module _ (s : Sizes) where
           → ranOn n (runFrom s left) (x .0) (x .1) ≡ (says (after m (an-end e)), u) → (n < m) × (m ≤ n + suc left)
       by (says going-on, v) ih k = let c = ih v k in (omega arith, omega arith)
       by (says (ended d), v) ih k =
-          let f : says (after (n + 1) (an-end d)) ≡ says (after m (an-end e)) = ap (λ q. q .0) k in let c : n + 1 ≡ m = cc in (omega arith, omega arith)
+          let f : says (after (n + 1) (an-end d)) ≡ says (after m (an-end e)) = ap (λ q. q .0) k in
+          let c : n + 1 ≡ m = cc in
+          (omega arith, omega arith)
       by (refused r, v) ih k = why (eqb r 9) k
         where
-          why : (b : Bool) → _≡_ {A = Said Run × List ℕ} (says (after n (cond b nothing-runs refusal-10)), v) (says (after m (an-end e)), u) → (n < m) × (m ≤ n + suc left)
-          why true w = let f : says (after n nothing-runs) ≡ says (after m (an-end e)) = ap (λ q. q .0) w in let z : _≡_ {A = ℕ} 0 1 = cc in absurd (omega arith)
-          why false w = let f : says (after n refusal-10) ≡ says (after m (an-end e)) = ap (λ q. q .0) w in let z : _≡_ {A = ℕ} 0 1 = cc in absurd (omega arith)
+          why : (b : Bool)
+              → _≡_ {A = Said Run × List ℕ} (says (after n (cond b nothing-runs refusal-10)), v) (says (after m (an-end e)), u)
+              → (n < m) × (m ≤ n + suc left)
+          why true w =
+              let f : says (after n nothing-runs) ≡ says (after m (an-end e)) = ap (λ q. q .0) w in
+              let z : _≡_ {A = ℕ} 0 1 = cc in
+              absurd (omega arith)
+          why false w =
+              let f : says (after n refusal-10) ≡ says (after m (an-end e)) = ap (λ q. q .0) w in
+              let z : _≡_ {A = ℕ} 0 1 = cc in
+              absurd (omega arith)
 
 pub steps-run : (line : End → List ℕ) (left : ℕ) (t : List ℕ) → 0 < left → stepsOf line left t ≡ ranPlayed line left (runOf left t)
 unfolding runOf runMeasured stepsOf goOn stepOf stepMeasured ranPlayed
@@ -134,5 +144,8 @@ unfolding runOf runMeasured
 ran-counts left m t u e h = by (measured t) h
   where
     by : (x : Measured) → runMeasured left t x ≡ (says (after m (an-end e)), u) → (0 < m) × (m ≤ left)
-    by Unfit k = let f : _≡_ {A = Said Run} (refused 1) (says (after m (an-end e))) = ap (λ q. q .0) k in let z : _≡_ {A = ℕ} 0 1 = cc in absurd (omega arith)
+    by Unfit k =
+        let f : _≡_ {A = Said Run} (refused 1) (says (after m (an-end e))) = ap (λ q. q .0) k in
+        let z : _≡_ {A = ℕ} 0 1 = cc in
+        absurd (omega arith)
     by (Sized s) k = let c = run-counts s left 0 m t u e k in (omega arith, omega arith)
