@@ -29,7 +29,7 @@ fn begin_frame(op: u16, point: u16, q: Queue, n: Node) -> Frame
 }
 
 // The number of the first refusal of an enqueue, or 0.
-fn enqueue_why(t: &[u16], s: Sizes, l: Level, q: Queue, n: Node) -> u16
+pub fn enqueue_why(t: &[u16], s: Sizes, l: Level, q: Queue, n: Node) -> u16
     requires { ⌜ Fits s (now t) ⌝ }
     ensures { λ r. ⌜ r ≡ enqueueWhy s (now (t .entry)) l q n ⌝ }
 {
@@ -76,7 +76,7 @@ pub fn begin_enqueue(t: &mut [u16], l: Level, q: Queue, n: Node) -> Done
 }
 
 // The number of the first refusal of a dequeue, or 0.
-fn dequeue_why(t: &[u16], s: Sizes, l: Level, q: Queue) -> u16
+pub fn dequeue_why(t: &[u16], s: Sizes, l: Level, q: Queue) -> u16
     requires { ⌜ Fits s (now t) ⌝ }
     ensures { λ r. ⌜ r ≡ dequeueWhy s (now (t .entry)) l q ⌝ }
 {

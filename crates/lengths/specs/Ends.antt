@@ -46,7 +46,7 @@ use Rattle.begins.specs.Begin.{
 use Rattle.begins.specs.Laws.{Enqueues, enqueues, dequeues}
 use Rattle.fresh.specs.Fresh.{freshTable}
 use Rattle.fresh.specs.Laws.{fresh-measured, fresh-frame}
-use Rattle.play.specs.Steps.{step-kept}
+use Rattle.steps.specs.Singly.{step-kept}
 use Rattle.lengths.specs.Running.{active, runningBelow, runningMeasured, running, endsIn}
 
 -- ---- one frame

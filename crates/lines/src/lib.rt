@@ -79,12 +79,12 @@ pub fn opening_length(o: Opening) -> usize
         + field_length(o.events)
 }
 
-// Writes the first five lines at the room's start, and answers the place after them.
-pub fn write_opening(room: &mut [u8], o: Opening) -> usize
-    requires { ⌜ length (openingText o) ≤ length (now room) ⌝ }
-    ensures { λ r. ⌜ Put r (now (room .exit)) (now (room .entry)) 0 (openingText o) ⌝ }
+// Writes the first five lines at place, and answers the place after them.
+pub fn write_opening(room: &mut [u8], place: usize, o: Opening) -> usize
+    requires { ⌜ place + length (openingText o) ≤ length (now room) ⌝ }
+    ensures { λ r. ⌜ Put r (now (room .exit)) (now (room .entry)) place (openingText o) ⌝ }
 {
-    let levels = heads::write_head(room, 0, b"3\n");
+    let levels = heads::write_head(room, place, b"3\n");
     let queues = decimals::write_field(room, levels, o.levels, LF);
     let nodes = decimals::write_field(room, queues, o.queues, LF);
     let events = decimals::write_field(room, nodes, o.nodes, LF);

@@ -4,3 +4,4 @@ pub mod Held
 pub mod Laws
 pub mod Keeping
 pub mod Holding
+pub mod Singly

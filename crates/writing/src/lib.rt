@@ -157,7 +157,7 @@ fn write_text(room: &mut [u8], words: &[u16]) -> usize
     ensures { λ r. ⌜ Put r (now (room .exit)) (now (room .entry)) 0 (wholeText (now (words .entry))) ⌝ }
 {
     let o = opening_in(words);
-    let at = lines::write_opening(room, o);
+    let at = lines::write_opening(room, 0, o);
     write_events(room, at, words, o.events)
 }
 

@@ -10,16 +10,16 @@ write-head-requires : tie.Need-write-head-requires
 write-head-requires c κs = omega (arith, opening-length (c .before .before .before .args .o))
 
 write-field-requires : tie.Need-write-field-requires
-write-field-requires c κs = omega (arith, opening-length (c .before .before .before .before .before .before .before .args .o))
+write-field-requires c κs = omega (arith, opening-length (c .before .before .before .before .before .before .before .args .o), (c .before .before .before .write-head .ensures .next), (c .before .before .before .write-head .kept .0))
 
 write-field-requires-2 : tie.Need-write-field-requires-2
-write-field-requires-2 c κs = omega (arith, opening-length (c .before .before .before .before .before .before .before .before .before .before .before .args .o))
+write-field-requires-2 c κs = omega (arith, opening-length (c .before .before .before .before .before .before .before .before .before .before .before .args .o), (c .before .before .before .write-field .ensures .next), (c .before .before .before .before .before .before .before .write-head .ensures .next))
 
 write-field-requires-3 : tie.Need-write-field-requires-3
-write-field-requires-3 c κs = omega (arith, opening-length (c .before .before .before .before .before .before .before .before .before .before .before .before .before .before .before .args .o))
+write-field-requires-3 c κs = omega (arith, opening-length (c .before .before .before .before .before .before .before .before .before .before .before .before .before .before .before .args .o), (c .before .before .before .write-field2 .ensures .next), (c .before .before .before .before .before .before .before .write-field .ensures .next), (c .before .before .before .before .before .before .before .before .before .before .before .write-head .ensures .next))
 
 write-field-requires-4 : tie.Need-write-field-requires-4
-write-field-requires-4 c κs = omega (arith, opening-length (c .before .before .before .before .before .before .before .before .before .before .before .before .before .before .before .before .before .before .before .args .o))
+write-field-requires-4 c κs = omega (arith, opening-length (c .before .before .before .before .before .before .before .before .before .before .before .before .before .before .before .before .before .before .before .args .o), (c .before .before .before .write-field3 .ensures .next), (c .before .before .before .before .before .before .before .write-field2 .ensures .next), (c .before .before .before .before .before .before .before .before .before .before .before .write-field .ensures .next), (c .before .before .before .before .before .before .before .before .before .before .before .before .before .before .before .write-head .ensures .next))
 
 returns : tie.Need-returns
 unfolding openingText

@@ -4,7 +4,8 @@ use lib.ListN.{length}
 use Rattle.loglines.specs.Lines.{lineOf}
 use Rattle.play.specs.Play.{stepsOf}
 use Rattle.play.specs.Parts.{into}
-use Rattle.play.specs.Steps.{ranPlayed, ran-counts}
+use Rattle.play.specs.Steps.{ranPlayed}
+use Rattle.steps.specs.Singly.{ended-within}
 use Rattle.play.specs.Laws.{run-ended, run-stopped, steps-none}
 use borrow.Author.Needs.{needs}
 use Rattle.play.proofs.play_steps.Statement.{statement}
@@ -26,14 +27,14 @@ sub-left c =
     let c8 = c .before .before .before .before .before .before .before .before in
     let run = c8 .before .run .ensures in
     let n-is = c .before .before .before .before .before .n .given .1 in
-    omega (arith, ran-counts _ _ _ _ _ (rw n-is at run))
+    omega (arith, ended-within _ _ _ _ _ (rw n-is at run))
 
 loop-less : tie.Need-loop-less Inv-loop μ-loop
 loop-less c =
     let c8 = c .before .before .before .before .before .before .before .before in
     let run = c8 .before .run .ensures in
     let n-is = c .before .before .before .before .before .n .given .1 in
-    omega (arith, ran-counts _ _ _ _ _ (rw n-is at run))
+    omega (arith, ended-within _ _ _ _ _ (rw n-is at run))
 
 loop-again : tie.Need-loop-again Inv-loop μ-loop
 loop-again c =
