@@ -1,0 +1,10 @@
+pub mod Notes
+pub mod Outcomes
+pub mod Tallies
+pub mod Lines
+pub mod NotesLaws
+pub mod OutcomesLaws
+pub mod TalliesLaws
+pub mod LinesLaws
+pub mod Enough
+pub mod Keys

@@ -1,0 +1,5 @@
+pub mod Tries
+pub mod Answers
+pub mod Listed
+pub mod Number
+pub mod Unique

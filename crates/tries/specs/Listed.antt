@@ -1,0 +1,286 @@
+-- What is listed, without the walk: the first texts as far as the bound, and whether there are more.
+use Prim.Native.Nat.{ℕ, zero, suc, _+_, _≤_, _<_}
+use mathlib.Core.Path.{_≡_, refl, sym, ap, _∙_}
+use mathlib.Core.Bool.{Bool, true, false, cond}
+use mathlib.Core.List.{List, [], _∷_, _++_, map}
+use native.Mathlib.Omega.{arith}
+use native.Mathlib.Nat.{zero-add}
+use lib.ListN.{length, take, length-append}
+use lib.Seq.{sets, length-sets}
+use lib.Dec.{leb, ltb}
+use borrow.Author.Tests.{le-leb, lt-leb, leb-true, leb-false, le-ltb, ltb-true, ltb-false}
+use Rattle.heads.specs.Laws.{sets-append}
+use Rattle.answers.specs.Said.{refused, says}
+use Rattle.ways.specs.Schedules.{Move, schedules}
+use Rattle.entries.specs.Texts.{counts}
+use Rattle.search.specs.declared.Asked.{Asked}
+use Rattle.search.specs.declared.Listed.{Listed}
+use Rattle.search.specs.declared.What.{What}
+use Rattle.search.specs.declared.What.the-variants.{Count, Tally, Measure, Write}
+use Rattle.search.specs.Walk.{sizesOf, opsOf, entryText, State, more, shut, fits, entered, emitted, listing, none, listedOf, asks}
+use Rattle.search.specs.Laws.{listing-closed}
+use Rattle.tries.specs.Tries.{joined, moreThan, texts, Answer, listedIn}
+
+-- what becomes of the room
+unfoldable puts : What → List ℕ → ℕ → List ℕ → List ℕ
+puts Count room p x = room
+puts Tally room p x = room
+puts Measure room p x = room
+puts Write room p x = sets room p x
+
+-- texts are measured or written
+abbrev Textual : What → Type 0
+Textual w = (text : List ℕ) (st : State)
+    → entered w text st ≡ cond (fits text st) (more (length text) (st .0), puts w (st .1) (st .0 .at) text) (shut true (st .0), st .1)
+
+measures : Textual Measure
+unfolding entered puts
+measures text st = refl
+
+writes : Textual Write
+unfolding entered puts
+writes text st = refl
+
+puts-length : (w : What) (room : List ℕ) (p : ℕ) (x : List ℕ) → length (puts w room p x) ≡ length room
+unfolding puts
+puts-length Count room p x = refl
+puts-length Tally room p x = refl
+puts-length Measure room p x = refl
+puts-length Write room p x = length-sets room p x
+
+puts-none : (w : What) (room : List ℕ) (p : ℕ) → puts w room p [] ≡ room
+unfolding puts
+puts-none Count room p = refl
+puts-none Tally room p = refl
+puts-none Measure room p = refl
+puts-none Write room p = refl
+
+puts-on : (w : What) (room : List ℕ) (p : ℕ) (x y : List ℕ) → puts w (puts w room p x) (p + length x) y ≡ puts w room p (x ++ y)
+unfolding puts
+puts-on Count room p x y = refl
+puts-on Tally room p x y = refl
+puts-on Measure room p x y = refl
+puts-on Write room p x y = sym (sets-append room p x y)
+
+module _ (a : Asked) (ws : List ℕ) (textual : Textual (a .what)) where
+  abbrev each : List (List Move) → List (List ℕ)
+  each mss = map (λ ms. entryText a ws (counts 0 ms)) mss
+
+  abbrev so : ℕ → ℕ → Bool → Listed
+  so c p more = record { count = c; at = p; closed = more; full = false }
+
+  abbrev put : List ℕ → ℕ → List ℕ → List ℕ
+  put room p x = puts (a .what) room p x
+
+  -- m more are wanted
+  abbrev Is : List (List ℕ) → ℕ → ℕ → ℕ → List ℕ → State
+  Is ts m c p room = (so (c + length (take m ts)) (p + length (joined (take m ts))) (moreThan m ts), put room p (joined (take m ts)))
+
+  is-none : (m c p : ℕ) (room : List ℕ) → (so c p false, room) ≡ Is [] m c p room
+  unfolding joined moreThan
+  is-none m c p room =
+      let x : c ≡ c + 0 = omega arith in
+      let y : p ≡ p + 0 = omega arith in
+      ap (λ (i : ℕ). (so i p false, room)) x
+      ∙ ap (λ (i : ℕ). (so (c + 0) i false, room)) y
+      ∙ ap (λ (r : List ℕ). (so (c + 0) (p + 0) false, r)) (sym (puts-none (a .what) room p))
+      ∙ by m
+    where
+      by : (m : ℕ) → (so (c + 0) (p + 0) false, put room p []) ≡ Is [] m c p room
+      by zero = refl
+      by (suc m) = refl
+
+  full-is : (t : List ℕ) (ts : List (List ℕ)) (c p : ℕ) (room : List ℕ) → (so c p true, room) ≡ Is (t ∷ ts) 0 c p room
+  unfolding joined moreThan
+  full-is t ts c p room =
+      let x : c ≡ c + 0 = omega arith in
+      let y : p ≡ p + 0 = omega arith in
+      ap (λ (i : ℕ). (so i p true, room)) x
+      ∙ ap (λ (i : ℕ). (so (c + 0) i true, room)) y
+      ∙ ap (λ (r : List ℕ). (so (c + 0) (p + 0) true, r)) (sym (puts-none (a .what) room p))
+
+  one-more : (t : List ℕ) (ts : List (List ℕ)) (m c p : ℕ) (room : List ℕ)
+      → Is ts m (c + 1) (p + length t) (put room p t) ≡ Is (t ∷ ts) (suc m) c p room
+  unfolding joined moreThan
+  one-more t ts m c p room =
+      let js : List ℕ = joined (take m ts) in
+      let k : ℕ = length (take m ts) in
+      let x : c + 1 + k ≡ c + suc k = omega arith in
+      let l = length-append t js in
+      let y : p + length t + length js ≡ p + length (t ++ js) = omega (arith, l) in
+      ap (λ (i : ℕ). (so i (p + length t + length js) (moreThan m ts), put (put room p t) (p + length t) js)) x
+      ∙ ap (λ (i : ℕ). (so (c + suc k) i (moreThan m ts), put (put room p t) (p + length t) js)) y
+      ∙ ap (λ (r : List ℕ). (so (c + suc k) (p + length (t ++ js)) (moreThan m ts), r)) (puts-on (a .what) room p t js)
+
+  emit-bound : (cs : List ℕ) (c p : ℕ) (room : List ℕ) → a .bound ≡ c + 0 → emitted a ws cs (so c p false, room) ≡ (so c p true, room)
+  unfolding emitted
+  emit-bound cs c p room e = let h : a .bound ≤ c = omega arith in rw (le-leb (a .bound) c h) refl
+
+  emit-open : (cs : List ℕ) (m c p : ℕ) (room : List ℕ) → a .bound ≡ c + suc m
+      → emitted a ws cs (so c p false, room) ≡ entered (a .what) (entryText a ws cs) (so c p false, room)
+  unfolding emitted
+  emit-open cs m c p room e = let k : c < a .bound = omega arith in rw (lt-leb (a .bound) c k) refl
+
+  emit-one : (cs : List ℕ) (m c p : ℕ) (room : List ℕ) → a .bound ≡ c + suc m → p + length (entryText a ws cs) ≤ length room
+      → emitted a ws cs (so c p false, room) ≡ (so (c + 1) (p + length (entryText a ws cs)) false, put room p (entryText a ws cs))
+  emit-one cs m c p room e h =
+      emit-open cs m c p room e
+      ∙ textual (entryText a ws cs) (so c p false, room)
+      ∙ rw (le-leb (p + length (entryText a ws cs)) (length room) h) refl
+
+  emit-full : (cs : List ℕ) (m c p : ℕ) (room : List ℕ) → a .bound ≡ c + suc m → length room < p + length (entryText a ws cs)
+      → emitted a ws cs (so c p false, room) ≡ (shut true (so c p false), room)
+  emit-full cs m c p room e h =
+      emit-open cs m c p room e
+      ∙ textual (entryText a ws cs) (so c p false, room)
+      ∙ rw (lt-leb (p + length (entryText a ws cs)) (length room) h) refl
+
+  -- the first m of them, where they fit; there are more exactly where there are more than m
+  listing-is : (mss : List (List Move)) (m c p : ℕ) (room : List ℕ) → a .bound ≡ c + m
+      → p + length (joined (take m (each mss))) ≤ length room
+      → listing a ws [] 0 mss (so c p false, room) ≡ Is (each mss) m c p room
+  unfolding listing joined
+  listing-is [] m c p room e h = is-none m c p room
+  listing-is (x ∷ xs) zero c p room e h =
+      ap (listing a ws [] 0 xs) (emit-bound (counts 0 x) c p room e)
+      ∙ listing-closed a ws [] 0 xs (so c p true, room) refl
+      ∙ full-is (entryText a ws (counts 0 x)) (each xs) c p room
+  listing-is (x ∷ xs) (suc m) c p room e h =
+      let t : List ℕ = entryText a ws (counts 0 x) in
+      let l = length-append t (joined (take m (each xs))) in
+      let d = puts-length (a .what) room p t in
+      ap (listing a ws [] 0 xs) (emit-one (counts 0 x) m c p room e (omega (arith, l, h)))
+      ∙ listing-is xs m (c + 1) (p + length t) (put room p t) (omega arith) (omega (arith, l, h, d))
+      ∙ one-more t (each xs) m c p room
+
+  -- where the first m do not fit, it is full
+  listing-full : (mss : List (List Move)) (m c p : ℕ) (room : List ℕ) → a .bound ≡ c + m → p ≤ length room
+      → length room < p + length (joined (take m (each mss))) → listing a ws [] 0 mss (so c p false, room) .0 .full ≡ true
+  unfolding listing joined
+  listing-full [] zero c p room e q h = absurd (omega arith)
+  listing-full [] (suc m) c p room e q h = absurd (omega arith)
+  listing-full (x ∷ xs) zero c p room e q h = absurd (omega arith)
+  listing-full (x ∷ xs) (suc m) c p room e q h =
+      by (leb (p + length (entryText a ws (counts 0 x))) (length room)) refl
+      (listing-full xs m (c + 1) (p + length (entryText a ws (counts 0 x))) (put room p (entryText a ws (counts 0 x))) (omega arith))
+    where
+      t : List ℕ
+      t = entryText a ws (counts 0 x)
+
+      by : (b : Bool) → leb (p + length t) (length room) ≡ b
+          → (p + length t ≤ length (put room p t) → length (put room p t) < p + length t + length (joined (take m (each xs)))
+          → listing a ws [] 0 xs (so (c + 1) (p + length t) false, put room p t) .0 .full ≡ true)
+          → listing a ws [] 0 xs (emitted a ws (counts 0 x) (so c p false, room)) .0 .full ≡ true
+      by true z ih =
+          let k = leb-true (p + length t) (length room) z in
+          let l = length-append t (joined (take m (each xs))) in
+          let d = puts-length (a .what) room p t in
+          ap (λ (s : State). listing a ws [] 0 xs s .0 .full) (emit-one (counts 0 x) m c p room e k)
+          ∙ ih (omega (arith, d, k)) (omega (arith, d, l, h))
+      by false z ih =
+          let k = leb-false (p + length t) (length room) z in
+          ap (λ (s : State). listing a ws [] 0 xs s .0 .full) (emit-full (counts 0 x) m c p room e k)
+          ∙ ap (λ (s : State). s .0 .full) (listing-closed a ws [] 0 xs (shut true (so c p false), room) refl)
+
+-- ---- the answer
+
+length-take-low : {A : Type 0} (n : ℕ) (xs : List A) → length (take n xs) ≤ n
+length-take-low zero xs = omega arith
+length-take-low (suc n) [] = omega arith
+length-take-low (suc n) (x ∷ xs) = let h = length-take-low n xs in omega (arith, h)
+
+module _ (a : Asked) (ws room : List ℕ) where
+  abbrev all : List (List ℕ)
+  all = texts (sizesOf a) (opsOf a ws)
+
+  abbrev wanted : List (List ℕ)
+  wanted = take (a .bound) all
+
+  abbrev listed : List ℕ → State
+  listed out =
+      (record { count = length wanted; at = length (joined wanted); closed = moreThan (a .bound) all; full = false }, out)
+
+  list-fits : (w : What) → Textual w → length (joined wanted) ≤ length room
+      → listedOf (asks w a) ws room ≡ listed (puts w room 0 (joined wanted))
+  unfolding listedOf entryText
+  list-fits w textual h =
+      let m : ℕ = a .bound in
+      listing-is (asks w a) ws textual (schedules (sizesOf a) (opsOf a ws)) m 0 0 room (sym (zero-add m)) (omega (arith, h))
+      ∙ ap
+      (λ (i : ℕ). (record { count = i; at = 0 + length (joined wanted); closed = moreThan m all; full = false }, puts w room 0 (joined wanted)))
+      (zero-add (length wanted))
+      ∙ ap (λ (i : ℕ). (record { count = length wanted; at = i; closed = moreThan m all; full = false }, puts w room 0 (joined wanted)))
+      (zero-add (length (joined wanted)))
+
+  list-full : (w : What) → Textual w → length room < length (joined wanted) → listedOf (asks w a) ws room .0 .full ≡ true
+  unfolding listedOf entryText
+  list-full w textual h =
+      let m : ℕ = a .bound in
+      listing-full (asks w a) ws textual (schedules (sizesOf a) (opsOf a ws)) m 0 0 room (sym (zero-add m))
+      (omega arith) (omega (arith, h))
+
+  -- measuring leaves the room
+  kept : (cs : List ℕ) (st : State) → emitted (asks Measure a) ws cs st .1 ≡ st .1
+  unfolding emitted entered
+  kept cs st = by (st .0 .closed) (leb (a .bound) (st .0 .count)) (fits (entryText (asks Measure a) ws cs) st)
+    where
+      by : (x y z : Bool)
+          → cond {A = State} x st (cond {A = State} y (shut (st .0 .full) (st .0), st .1)
+          (cond {A = State} z (more (length (entryText (asks Measure a) ws cs)) (st .0), st .1) (shut true (st .0), st .1))) .1
+          ≡ st .1
+      by true y z = refl
+      by false true z = refl
+      by false false true = refl
+      by false false false = refl
+
+  keeps : (mss : List (List Move)) (st : State) → listing (asks Measure a) ws [] 0 mss st .1 ≡ st .1
+  unfolding listing
+  keeps [] st = refl
+  keeps (ms ∷ mss) st = keeps mss (emitted (asks Measure a) ws (counts 0 ms) st) ∙ kept (counts 0 ms) st
+
+  measured-keeps : listedOf (asks Measure a) ws room .1 ≡ room
+  unfolding listedOf
+  measured-keeps = keeps (schedules (sizesOf a) (opsOf a ws)) (none, room)
+
+  module _ (m : Listed) (after : List ℕ) (e : listedOf (asks Measure a) ws room ≡ (m, after)) where
+    pub unwritten : after ≡ room
+    unwritten = sym (ap (λ (st : State). st .1) e) ∙ measured-keeps
+
+    pub measured-full : m .full ≡ true → listedIn all (a .bound) room ≡ (refused 12, after)
+    unfolding listedIn
+    measured-full h = by (ltb (length room) (length (joined wanted))) refl
+      where
+        by : (b : Bool) → ltb (length room) (length (joined wanted)) ≡ b → listedIn all (a .bound) room ≡ (refused 12, after)
+        by true y = rw y (ap (λ (r : List ℕ). (refused 12, r)) (sym unwritten))
+        by false y =
+            let full : m .full ≡ false = ap (λ (st : State). st .0 .full) (sym e ∙ list-fits Measure measures (ltb-false _ _ y)) in
+            let z : _≡_ {A = ℕ} 0 1 = cc in
+            absurd (omega arith)
+
+    pub measured-fits : m .full ≡ false → length (joined wanted) ≤ length room
+    measured-fits h = by (ltb (length room) (length (joined wanted))) refl
+      where
+        by : (b : Bool) → ltb (length room) (length (joined wanted)) ≡ b → length (joined wanted) ≤ length room
+        by true y =
+            let full : m .full ≡ true = ap (λ (st : State). st .0 .full) (sym e) ∙ list-full Measure measures (ltb-true _ _ y) in
+            let z : _≡_ {A = ℕ} 0 1 = cc in
+            absurd (omega arith)
+        by false y = ltb-false _ _ y
+
+    module _ (l : Listed) (out : List ℕ) (f : listedOf (asks Write a) ws after ≡ (l, out)) (h : m .full ≡ false) where
+      written : (l, out) ≡ listed (sets room 0 (joined wanted))
+      unfolding puts
+      written =
+          sym f ∙ ap (listedOf (asks Write a) ws) unwritten ∙ list-fits Write writes (measured-fits h)
+
+      pub count-low : a .bound ≤ 4294967295 → l .count < 4294967296
+      count-low k =
+          let c : l .count ≡ length wanted = ap (λ (st : State). st .0 .count) written in
+          omega (arith, c, length-take-low (a .bound) all)
+
+      pub written-so : (b : Bool) → l .closed ≡ b → listedIn all (a .bound) room ≡ (says (l .count, (l .at, b)), out)
+      unfolding listedIn
+      written-so b k =
+          let answer : State → Answer = λ st. (says (st .0 .count, (st .0 .at, st .0 .closed)), st .1) in
+          rw (le-ltb (length room) (length (joined wanted)) (measured-fits h))
+          (sym (ap answer written) ∙ ap (λ (x : Bool). (says (l .count, (l .at, x)), out)) k)

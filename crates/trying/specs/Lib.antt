@@ -1,0 +1,5 @@
+pub mod Bounds
+pub mod Trying
+pub mod InRoom
+pub mod Laws
+pub mod Once
