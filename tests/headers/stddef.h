@@ -1,2 +1,3 @@
-/* A stand-in: what include/bench.h needs of C's own, for the kit's compiler, which has no headers. */
+/* A stand-in: what the C files of this repository need of C's own, for the kit's compiler, which has no headers. */
 typedef unsigned long size_t;
+#define NULL ((void *)0)

@@ -1,2 +1,8 @@
-/* A stand-in: see stddef.h. The function is that of the kit's C library. */
+/* A stand-in: see stddef.h. The functions are those of the kit's C library. */
+typedef struct _IO_FILE FILE;
+extern FILE *stdout;
 int printf(const char *format, ...);
+FILE *fopen(const char *path, const char *mode);
+int fprintf(FILE *file, const char *format, ...);
+int fflush(FILE *file);
+int fclose(FILE *file);
