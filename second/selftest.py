@@ -1,5 +1,6 @@
 #!/usr/bin/env python3
-"""Holds second/bench.py to the worked runs, and examples/README.md, docs/SCHEDULE.md and docs/BOUNDS.md to second/bench.py.
+"""Holds second/bench.py to the worked runs; examples/README.md, docs/SCHEDULE.md and docs/BOUNDS.md to second/bench.py; and
+examples/tries/README.md and docs/TRIES.md to second/tries.py.
 
     second/selftest.py
 """
@@ -64,6 +65,30 @@ def bounded():
         return re.findall(r"^\[examples/([a-z0-9-]+)\.schedule\].*?^```\n(.*?)^```$", page.read(), re.M | re.S)
 
 
+def tried():
+    """The options, the name and the answer of each task that examples/tries/README.md and docs/TRIES.md show."""
+    shown = []
+    for page in ("examples/tries/README.md", "docs/TRIES.md"):
+        with open(f"{HERE}/../{page}") as text:
+            command = r"^ {4}\./bench tries (-c|-n \d+) examples/tries/([a-z-]+)\.schedule\n\n```\n(.*?)^```$"
+            shown += re.findall(command, text.read(), re.M | re.S)
+    return shown
+
+
+def differing_tries():
+    import tries  # here, since it imports this file
+
+    stored = {each[:-9] for each in os.listdir(HERE + "/../examples/tries") if each.endswith(".schedule")}
+    if stored != {name for option, name, _ in tried() if option == "-c"}:
+        yield "the outcomes of each task in examples/tries are not shown"
+    for option, name, shown in tried():
+        with open(f"{HERE}/../examples/tries/{name}.schedule", "rb") as text:
+            parts = tries.answer(text.read(), int(option[3:] or 0), option == "-c")
+        got = b"".join(part for part in parts if part).decode()
+        if got != shown:
+            yield f"examples/tries/{name}.schedule {option}: {got!r}"
+
+
 def differing():
     for bounds, runs in ((False, RUNS), (True, BOUNDED)):
         for name, events, log in runs:
@@ -89,7 +114,7 @@ def differing():
 
 
 if __name__ == "__main__":
-    wrong = list(differing())
+    wrong = [*differing(), *differing_tries()]
     if wrong:
         sys.exit("\n".join(wrong))
-    print(f"{len(RUNS) + len(BOUNDED)} worked runs, {len(examples())} examples and {len(texts())} texts agree")
+    print(f"{len(RUNS) + len(BOUNDED)} worked runs, {len(examples())} examples, {len(texts())} texts and {len(tried())} tasks agree")
