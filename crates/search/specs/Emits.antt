@@ -1,16 +1,14 @@
 -- What the proofs of one schedule more cite.
 use Prim.Native.Nat.{ℕ, zero, suc, _+_, _-_, _≤_, _<_}
 use mathlib.Core.Path.{_≡_, refl, sym, ap, _∙_}
-use mathlib.Core.Bool.{Bool, true, false, cond}
-use mathlib.Core.List.{List, [], _∷_, _++_}
+use mathlib.Core.Bool.{Bool, true, false}
+use mathlib.Core.List.{List, [], _∷_}
 use native.Mathlib.Omega.{arith}
 use native.Mathlib.Numerals.{add-one}
 use lib.ListN.{length, take, set}
-use lib.Seq.{sets}
 use lib.Dec.{leb}
 use borrow.Author.Tests.{le-leb, lt-leb, leb-true, leb-false}
 use Rattle.heads.specs.Put.{Put}
-use Rattle.text.specs.declared.Event.{Event}
 use Rattle.text.specs.declared.Opening.{Opening}
 use Rattle.text.specs.Text.{openingText, eventsText, textOf}
 use Rattle.ways.specs.declared.Op.{Op}

@@ -2,14 +2,14 @@
 use Prim.Native.Nat.{ℕ, zero, suc, _+_, _*_, _≤_, _<_}
 use mathlib.Core.Path.{_≡_, refl, sym, ap, _∙_}
 use mathlib.Core.Bool.{Bool, true, false, cond}
-use mathlib.Core.List.{List, [], _∷_, _++_, map}
+use mathlib.Core.List.{List, [], _∷_, _++_}
 use native.Mathlib.Omega.{arith}
 use native.Mathlib.Nat.{mul-le-mul, zero-add}
 use lib.ListN.{length, length-append, length-map}
 use borrow.Author.Tests.{lt-leb}
 use Rattle.ways.specs.declared.Op.{Op}
 use Rattle.ways.specs.Schedules.{Move, step, begin, stepped, begun, idle, ending, after}
-use Rattle.ways.specs.Schedules.{byStep, byBegin, both, mostMoves, fresh, schedules}
+use Rattle.ways.specs.Schedules.{byStep, both, mostMoves, fresh, schedules}
 use Rattle.entries.specs.Texts.{counts}
 use Rattle.search.specs.declared.Asked.{Asked}
 use Rattle.search.specs.declared.Listed.{Listed}

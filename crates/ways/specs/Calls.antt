@@ -1,11 +1,10 @@
 -- What the calls give: the proofs of the functions that make one call cite these.
-use Prim.Native.Nat.{ℕ, zero, suc, _+_, _*_, _-_, _<_, _≤_}
+use Prim.Native.Nat.{ℕ, _-_}
 use mathlib.Core.Path.{_≡_, refl, sym, ap, _∙_}
 use mathlib.Core.Bool.{Bool, true, false, cond, _&&_}
-use mathlib.Core.List.{List, [], _∷_}
-use native.Mathlib.Omega.{arith}
+use mathlib.Core.List.{List}
 use lib.Dec.{eqb}
-use borrow.Author.Tests.{eq-eqb, ne-eqb}
+use borrow.Author.Tests.{ne-eqb}
 use Rattle.words.specs.declared.Level.{Level}
 use Rattle.words.specs.declared.Queue.{Queue}
 use Rattle.words.specs.declared.Node.{Node}
@@ -14,7 +13,7 @@ use Rattle.words.specs.declared.Measured.the-variants.{Sized, Unfit}
 use Rattle.words.specs.Layout.{measured}
 use Rattle.answers.specs.declared.Stepped.{Stepped}
 use Rattle.answers.specs.declared.Done.{Done}
-use Rattle.answers.specs.Said.{Said, refused, says, Step, stepSays, doneSays}
+use Rattle.answers.specs.Said.{Said, refused, says, stepSays, doneSays}
 use Rattle.begins.specs.Begin.{unless, enqueueWhy, enqueueSized, enqueueMeasured, enqueueOf}
 use Rattle.begins.specs.Begin.{dequeueWhy, dequeueSized, dequeueMeasured, dequeueOf}
 use Rattle.steps.specs.Step.{stepOf}

@@ -1,6 +1,6 @@
 -- The ways on which nothing is to be chosen.
 use Prim.Native.Nat.{ℕ, zero, suc, _+_, _-_}
-use mathlib.Core.Bool.{Bool, true, false, cond}
+use mathlib.Core.Bool.{cond}
 use mathlib.Core.List.{List}
 use Rattle.ways.specs.declared.Op.{Op}
 use Rattle.ways.specs.declared.Tail.{Tail}

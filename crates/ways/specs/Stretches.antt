@@ -1,6 +1,6 @@
 -- A stretch on which the next operation is refused, step by step.
 use Prim.Native.Nat.{ℕ, zero, suc, _-_, _≤_, _<_}
-use mathlib.Core.Path.{_≡_, refl, sym, ap, _∙_}
+use mathlib.Core.Path.{_≡_, refl, sym, _∙_}
 use mathlib.Core.Bool.{Bool, true, false, cond}
 use mathlib.Core.List.{List}
 use native.Mathlib.Omega.{arith}
@@ -8,7 +8,7 @@ use native.Mathlib.Numerals.{sub-one}
 use Rattle.ways.specs.declared.Op.{Op}
 use Rattle.ways.specs.declared.Tail.{Tail}
 use Rattle.ways.specs.declared.Tail.the-variants.{Cut}
-use Rattle.ways.specs.Schedules.{Tried, stepped, begun}
+use Rattle.ways.specs.Schedules.{stepped, begun}
 use Rattle.ways.specs.Forced.{stretched, endIn, lastIn}
 
 pub stretch-yes : (o : Op) (left : ℕ) (t : List ℕ) (b : Bool) → 0 < left → b ≡ begun o t .0 → b ≡ true → stretched o left t ≡ (left, t)
