@@ -12,7 +12,7 @@ use lib.Dec.{ltb, eqb}
 use borrow.Author.Tests.{ltb-true, ltb-false, lt-ltb, le-ltb, le-leb, eq-eqb, eqb-true}
 use Rattle.decimals.specs.declared.FieldRead.the-variants.{Number, Wrong}
 use Rattle.decimals.specs.Decimals.{widthOf, lastDigits, digitsOf, fieldOf, isDigit, withDigit, goesOn, restIn, fieldIn, fieldAt}
-use Rattle.decimals.specs.Laws.{digit-is, goes-on-is, length-field, Digit}
+use Rattle.decimals.specs.Laws.{digit-is, digits-one, goes-on-is, length-field, Digit}
 
 below? : (a b : ℕ) → (a < b) ⊎ (b ≤ a)
 below? a b = by (ltb a b) refl
@@ -41,10 +41,6 @@ width-more v w p l h top =
     by false true c = refl
     by false false true = refl
     by false false false = refl
-
-digits-one : (n : ℕ) → n < 10 → digitsOf n ≡ (48 + n) ∷ []
-unfolding digitsOf lastDigits widthOf
-digits-one n h = let e : n % 10 ≡ n = omega arith in simp (lt-ltb n 10 h, e)
 
 digits-more : (v b : ℕ) → Digit v b → digitsOf (withDigit v b) ≡ digitsOf v ++ (b ∷ [])
 unfolding digitsOf lastDigits

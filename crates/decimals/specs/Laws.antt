@@ -8,7 +8,7 @@ use native.Mathlib.Numerals.{add-one, sub-one}
 use lib.ListN.{length, set, getD, length-append, drop-of-length-le}
 use lib.Seq.{sets, set-comm, drop-cons}
 use lib.Dec.{ltb, leb, eqb}
-use borrow.Author.Tests.{ltb-true, leb-true}
+use borrow.Author.Tests.{ltb-true, leb-true, lt-ltb, le-ltb}
 use Rattle.heads.specs.Laws.{sets-append}
 use Rattle.decimals.specs.declared.FieldRead.the-variants.{Number, Wrong}
 use Rattle.decimals.specs.Decimals.{widthOf, lastDigits, digitsOf, fieldOf, isDigit, withDigit, goesOn, restIn, restOf, fieldIn, fieldAt}
@@ -48,6 +48,14 @@ length-digits n = length-last (widthOf n) n
 pub length-field : (n end : ℕ) → length (fieldOf n end) ≡ widthOf n + 1
 unfolding fieldOf
 length-field n end = simp (length-append, length-digits)
+
+pub digits-one : (n : ℕ) → n < 10 → digitsOf n ≡ (48 + n) ∷ []
+unfolding digitsOf lastDigits widthOf
+digits-one n h = let e : n % 10 ≡ n = omega arith in simp (lt-ltb n 10 h, e)
+
+pub digits-two : (n : ℕ) → 10 ≤ n → n < 100 → digitsOf n ≡ (48 + n / 10) ∷ (48 + n % 10) ∷ []
+unfolding digitsOf lastDigits widthOf
+digits-two n l h = let e : n / 10 % 10 ≡ n / 10 = omega arith in simp (le-ltb n 10 l, lt-ltb n 100 h, e)
 
 -- one more byte of a field's rest
 pub rest-cons : (end : ℕ) (text : List ℕ) (n at : ℕ) → at < length text

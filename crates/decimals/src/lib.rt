@@ -107,11 +107,21 @@ fn digit(n: usize) -> u8
     48 + (n % 10) as u8
 }
 
-// Writes n's digits from place on, the last one first, and answers the place after them.
+// Writes n's digits from place on and answers the place after them: one or two at once, as most numbers of a text
+// have no more, and more of them the last one first.
 pub fn write_digits(room: &mut [u8], place: usize, n: usize) -> usize
     requires { ⌜ place + length (digitsOf n) ≤ length (now room) ⌝ }
     ensures { λ r. ⌜ Put r (now (room .exit)) (now (room .entry)) place (digitsOf n) ⌝ }
 {
+    if n < 10 {
+        room[place] = digit(n);
+        return place + 1;
+    }
+    if n < 100 {
+        room[place] = digit(n / 10);
+        room[place + 1] = digit(n);
+        return place + 2;
+    }
     let w = width(n);
     let mut left = w;
     let mut m = n;
