@@ -1,12 +1,12 @@
 use Prim.Native.Nat.{_≤_, _+_, _*_, _-_}
-use mathlib.Core.Path.{_≡_, refl, ap, sym, _∙_}
+use mathlib.Core.Path.{_≡_, ap}
 use mathlib.Core.List.{List}
 use lib.ListN.{length}
 use native.Mathlib.Omega.{arith}
 use Rattle.text.specs.declared.Event.{Event}
 use Rattle.text.specs.Text.{eventsText}
 use Rattle.entries.specs.Entries.{eventsAt}
-use Rattle.entries.specs.Entries.{events-start, bytes-start, count-at-more, bytes-at-more, event-bytes, at-end}
+use Rattle.entries.specs.Entries.{events-start, bytes-start, count-at-more, bytes-at-more, event-bytes, events-top, at-end}
 use borrow.Author.Needs.{needs}
 use Rattle.entries.proofs.events_size.Statement.{statement}
 use Rattle.entries.proofs.events_size.Tie as tie
@@ -19,7 +19,7 @@ use Rattle.entries.proofs.steps_size.Reads as steps-size-reads
 
 abbrev Inv-loop : tie.InvT-loop
 Inv-loop ops k path events₀ bytes₀ j₀ events bytes j =
-    (j ≤ k) × (events ≤ 2 * j) × (bytes ≤ 40 * j)
+    (j ≤ k) × (events ≤ 2 * j)
     × (events + length (eventsAt ops path j (k - j)) ≡ length (eventsAt ops path 0 k))
     × (bytes + length (eventsText (eventsAt ops path j (k - j))) ≡ length (eventsText (eventsAt ops path 0 k)))
 
@@ -28,7 +28,7 @@ abbrev μ-loop : tie.MeasureT-loop
 
 -- src/lib.rt:219:5
 loop-holds : tie.Need-loop-holds Inv-loop μ-loop
-loop-holds c = (search needs, search needs, search needs, events-start _ _ _, bytes-start _ _ _)
+loop-holds c = (search needs, search needs, events-start _ _ _, bytes-start _ _ _)
 
 -- src/lib.rt:220:28
 mul-steps-size : tie.Need-mul-steps-size Inv-loop μ-loop
@@ -68,7 +68,12 @@ add-bytes c = search needs
 
 -- src/lib.rt:222:9
 add-bytes-2 : tie.Need-add-bytes-2 Inv-loop μ-loop
-add-bytes-2 c = search needs
+add-bytes-2 c =
+    let arg-ops-now = c .before .before .before .before .before .before .before .before .before .args .ops .now in
+    let arg-t2 = c .before .before .before .before .before .before .before .before .before .args .t2 in
+    let arg-k = c .before .before .before .before .before .before .before .before .before .args .k in
+    let loop-inv-3 = c .before .before .before .before .before .before .before .loop .inv .3 in
+    omega (arith, loop-inv-3, events-top arg-ops-now arg-t2 0 arg-k)
 
 -- src/lib.rt:223:9
 add-j : tie.Need-add-j Inv-loop μ-loop
@@ -84,16 +89,13 @@ loop-again c =
     let loop-inv-1 = c .before .before .before .before .before .before .before .loop .inv .1 in
     let steps-size-says-2 = c .before .before .before .before .before .steps-size .ensures .2 in
     let loop-inv-2 = c .before .before .before .before .before .before .before .loop .inv .2 in
-    let steps-size-says-3 = c .before .before .before .before .before .steps-size .ensures .3 in
-    let event-length-says-1 = c .before .event-length .ensures .1 in
-    let loop-inv-3 = c .before .before .before .before .before .before .before .loop .inv .3 in
     let arg-ops-now = c .before .before .before .before .before .before .before .before .before .args .ops .now in
     let arg-t2 = c .before .before .before .before .before .before .before .before .before .args .t2 in
     let loop-j = c .before .before .before .before .before .before .before .loop .j in
     let arg-k = c .before .before .before .before .before .before .before .before .before .args .k in
     let loop-test-yes = c .before .before .before .before .before .before .loop-test .taken in
     let steps-size-says-0 = c .before .before .before .before .before .steps-size .ensures .0 in
-    let loop-inv-4 = c .before .before .before .before .before .before .before .loop .inv .4 in
+    let loop-inv-3 = c .before .before .before .before .before .before .before .loop .inv .3 in
     let steps-size-says-1 = c .before .before .before .before .before .steps-size .ensures .1 in
     let event-length-says-0 = c .before .event-length .ensures .0 in
     let op-event-says = c .before .before .op-event .ensures in
@@ -103,18 +105,12 @@ loop-again c =
       omega (
         arith,
         loop-inv-2,
-        steps-size-says-3,
-        event-length-says-1,
-      ),
-      omega (
-        arith,
-        loop-inv-3,
         count-at-more arg-ops-now arg-t2 loop-j arg-k loop-test-yes,
         steps-size-says-0,
       ),
       omega (
         arith,
-        loop-inv-4,
+        loop-inv-3,
         bytes-at-more arg-ops-now arg-t2 loop-j arg-k loop-test-yes,
         steps-size-says-1,
         event-length-says-0,
@@ -140,42 +136,32 @@ add-t21 c = search needs
 
 -- src/lib.rt:228:16
 add-t18 : tie.Need-add-t18 Inv-loop μ-loop
-add-t18 c = search needs
+add-t18 c =
+    let arg-ops-now = c .before .before .before .before .before .before .args .ops .now in
+    let arg-t2 = c .before .before .before .before .before .before .args .t2 in
+    let arg-k = c .before .before .before .before .before .before .args .k in
+    let loop-inv-3 = c .before .before .before .before .loop .inv .3 in
+    omega (arith, loop-inv-3, events-top arg-ops-now arg-t2 0 arg-k)
 
 -- src/lib.rt:212:1
 returns : tie.Need-returns Inv-loop μ-loop
 returns c =
-    let loop-inv-3 = c .before .before .before .before .loop .inv .3 in
     let arg-ops-now = c .before .before .before .before .before .before .args .ops .now in
     let arg-t2 = c .before .before .before .before .before .before .args .t2 in
-    let loop-j = c .before .before .before .before .loop .j in
     let arg-k = c .before .before .before .before .before .before .args .k in
+    let pre-0 = c .before .before .before .before .before .before .pre .0 in
+    let loop-j = c .before .before .before .before .loop .j in
     let loop-inv-0 = c .before .before .before .before .loop .inv .0 in
+    let loop-inv-2 = c .before .before .before .before .loop .inv .2 in
+    let loop-inv-3 = c .before .before .before .before .loop .inv .3 in
     let loop-test-no = c .before .before .before .loop-test .left in
     let steps-size2-says-0 = c .before .before .steps-size2 .ensures .0 in
-    let loop-inv-4 = c .before .before .before .before .loop .inv .4 in
     let steps-size2-says-1 = c .before .before .steps-size2 .ensures .1 in
-    let loop-inv-2 = c .before .before .before .before .loop .inv .2 in
-    let steps-size2-says-3 = c .before .before .steps-size2 .ensures .3 in (
-      omega (
-        arith,
-        loop-inv-3,
-        ap length (at-end arg-ops-now arg-t2 loop-j arg-k loop-inv-0 loop-test-no),
-        steps-size2-says-0,
-      ),
-      omega (
-        arith,
-        loop-inv-4,
-        ap (λ (es : List Event). length (eventsText es)) (at-end arg-ops-now
-            arg-t2 loop-j arg-k loop-inv-0 loop-test-no),
-        steps-size2-says-1,
-      ),
-      omega (
-        arith,
-        loop-inv-2,
-        loop-inv-0,
-        steps-size2-says-3,
-      ),
+    let last = at-end arg-ops-now arg-t2 loop-j arg-k loop-inv-0 loop-test-no in
+    let bytes-last = ap (λ (es : List Event). length (eventsText es)) last in (
+      omega (arith, loop-inv-2, ap length last, steps-size2-says-0),
+      omega (arith, loop-inv-3, bytes-last, steps-size2-says-1),
+      omega (arith, loop-inv-3, bytes-last, steps-size2-says-1, events-top arg-ops-now arg-t2 0 arg-k, pre-0),
     )
 
 pub events-size-spec : {M : Type 1} → statement M

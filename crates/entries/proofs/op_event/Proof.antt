@@ -1,6 +1,5 @@
 use borrow.Author.Tests.{eq-eqb, ne-eqb}
 use Rattle.entries.specs.Texts.{opEvent}
-use borrow.Author.Needs.{needs}
 use Rattle.entries.proofs.op_event.Statement.{statement}
 use Rattle.entries.proofs.op_event.Tie as tie
 use Rattle.entries.proofs.op_event.Reads as reads

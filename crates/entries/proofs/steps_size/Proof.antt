@@ -1,7 +1,7 @@
 use native.Mathlib.Omega.{arith}
 use mathlib.Core.Path.{ap}
 use lib.ListN.{length}
-use Rattle.entries.specs.Entries.{no-steps, no-steps-text, some-steps, steps-text}
+use Rattle.entries.specs.Entries.{no-steps, no-steps-text, some-steps, steps-text, s-line-top}
 use borrow.Author.Needs.{needs}
 use Rattle.entries.proofs.steps_size.Statement.{statement}
 use Rattle.entries.proofs.steps_size.Tie as tie
@@ -30,16 +30,14 @@ returns c =
 returns-2 : tie.Need-returns-2
 returns-2 c =
     let if1-no = c .before .if1 .left in
-    let e = some-steps _ if1-no in let f = steps-text _ if1-no in (
+    let e = some-steps _ if1-no in
+    let f = ap length (steps-text _ if1-no) in
+    let low = s-line-top (c .before .before .args .c) in
+    let event-length-says-0 = c .event-length .ensures .0 in (
       omega (arith, ap length e),
-      omega (
-        arith,
-        ap length f,
-        (c
-            .event-length .ensures .0),
-      ),
+      omega (arith, f, event-length-says-0),
       search needs,
-      (c .event-length .ensures .1),
+      omega (arith, f, event-length-says-0, low),
     )
 
 pub steps-size-spec : {M : Type 1} → statement M

@@ -1,5 +1,5 @@
-use Prim.Native.Nat.{ℕ, _≤_, _+_, _*_, _-_}
-use mathlib.Core.Path.{_≡_, refl, ap, sym, _∙_}
+use Prim.Native.Nat.{ℕ, _≤_, _+_, _-_}
+use mathlib.Core.Path.{_≡_, refl, ap, _∙_}
 use mathlib.Core.List.{List, [], _++_}
 use lib.ListN.{length, getD, length-append}
 use native.Mathlib.Omega.{arith}
