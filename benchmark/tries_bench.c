@@ -51,7 +51,7 @@ static unsigned most_samples = 25, least_samples = 3;
 static double sample_ns = 4e6;
 static const double SIDE_NS = 2e9; /* after so long no sample more is taken than the least */
 
-enum { LISTED = 20000, LONGEST_TEXT = 200 };
+enum { LISTED = 20000, LONGEST_TEXT = 202 };
 static char first_room[LISTED * LONGEST_TEXT], room[LISTED * LONGEST_TEXT];
 
 struct work {

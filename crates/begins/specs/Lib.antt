@@ -1,2 +1,3 @@
 pub mod Begin
 pub mod Laws
+pub mod Keeping

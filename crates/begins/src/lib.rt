@@ -51,7 +51,8 @@ pub fn enqueue_why(t: &[u16], s: Sizes, l: Level, q: Queue, n: Node) -> u16
     0
 }
 
-fn enqueue_sized(t: &mut [u16], s: Sizes, l: Level, q: Queue, n: Node) -> Done
+// Begins an enqueue on a table that was measured.
+pub fn enqueue_sized(t: &mut [u16], s: Sizes, l: Level, q: Queue, n: Node) -> Done
     requires { ⌜ Fits s (now t) ⌝ }
     ensures { λ r. ⌜ enqueueSized s (now (t .entry)) l q n ≡ (doneSays r, now (t .exit)) ⌝ }
 {
@@ -95,7 +96,8 @@ pub fn dequeue_why(t: &[u16], s: Sizes, l: Level, q: Queue) -> u16
     0
 }
 
-fn dequeue_sized(t: &mut [u16], s: Sizes, l: Level, q: Queue) -> Done
+// Begins a dequeue on a table that was measured.
+pub fn dequeue_sized(t: &mut [u16], s: Sizes, l: Level, q: Queue) -> Done
     requires { ⌜ Fits s (now t) ⌝ }
     ensures { λ r. ⌜ dequeueSized s (now (t .entry)) l q ≡ (doneSays r, now (t .exit)) ⌝ }
 {

@@ -1,6 +1,6 @@
 -- Facts about the conditions that the proofs of the calls cite.
-use Prim.Native.Nat.{ℕ, suc, _+_, _-_, _≤_, _<_}
-use mathlib.Core.Path.{_≡_}
+use Prim.Native.Nat.{ℕ, zero, suc, _+_, _-_, _≤_, _<_}
+use mathlib.Core.Path.{_≡_, refl}
 use mathlib.Core.List.{List}
 use mathlib.Core.Bool.{true, false, not, _||_}
 use native.Mathlib.Omega.{arith}
@@ -43,3 +43,10 @@ has-node s n h =
     let k = not-false (within (s .queues + 1) (s .nodes) (n .0)) h in
     let low = within-low (s .queues + 1) (s .nodes) (n .0) k in
     within-is 1 (s .nodes) (n .0) (omega arith) (within-high (s .queues + 1) (s .nodes) (n .0) k)
+
+-- a search among frames that are alike
+pub some-same : (s : Sizes) (t u : List ℕ) (w : Sought) → ((k : Level) → sought w (frameOf s u k) ≡ sought w (frameOf s t k)) → (i n : ℕ)
+    → some s u w i n ≡ some s t w i n
+unfolding some
+some-same s t u w h i zero = refl
+some-same s t u w h i (suc n) = rw (h (level i), some-same s t u w h (i + 1) n)

@@ -30,7 +30,7 @@ use Rattle.steps.specs.declared.Served.{Served}
 use Rattle.steps.specs.declared.Served.the-variants.{At, Nobody}
 use Rattle.steps.specs.Step.{Out, serving, sound, settled, performed, stepFrame, stepServed, stepSized, stepMeasured, stepOf}
 use Rattle.steps.specs.Laws.{serving-below, serving-runs}
-use Rattle.steps.specs.Keeping.{opAfter, opOf, op-kept}
+use Rattle.steps.specs.Keeping.{kind, kindAfter, kindOf, kind-kept}
 use Rattle.begins.specs.Begin.{
   begun,
   unless,
@@ -128,14 +128,15 @@ module _ (s : Sizes) (t : List ℕ) (l : Level) (f : Frame) (m : measured t ≡ 
     (op-is : f .op ≡ frameOf s t l .op) (op-runs : f .op ≢ 0) where
   -- after an access that left every frame
   settled-balanced : (u : List ℕ) (a : After) → ((k : Level) → frameOf s u k ≡ frameOf s t k) → words s ≤ length u
-      → opAfter (f .op) a ≡ f .op → Balanced s t (settled s u l f a)
-  unfolding settled opAfter endsIn
-  settled-balanced u (Go g) kept long op =
+      → kindAfter (kind f) a ≡ kind f → Balanced s t (settled s u l f a)
+  unfolding settled kindAfter endsIn
+  settled-balanced u (Go g) kept long alike =
+      let op : g .op ≡ f .op = ap (λ (x : ℕ × ℕ). x .0) alike in
       let put = put-counts s u l g (s .levels) long in-l in-l in
       let others = below-same s t u (s .levels) kept in
       let was : active (frameOf s u l) ≡ active g = ap active (kept l) ∙ active-op (frameOf s t l) g (sym (op ∙ op-is)) in
       omega arith
-  settled-balanced u (Done n) kept long op =
+  settled-balanced u (Done n) kept long alike =
       let put = put-counts s u l noFrame (s .levels) long in-l in-l in
       let others = below-same s t u (s .levels) kept in
       let was : active (frameOf s u l) ≡ 1 = ap active (kept l) ∙ active-op (frameOf s t l) f (sym op-is) ∙ active-one f op-runs in
@@ -145,28 +146,28 @@ module _ (s : Sizes) (t : List ℕ) (l : Level) (f : Frame) (m : measured t ≡ 
   long : words s ≤ length t
   long = measured-fits t s m .room
 
-  performed-balanced : (r : Row) → ((x : ℕ) → opOf (f .op) x r ≡ f .op) → Balanced s t (performed s t l f r)
-  unfolding performed opOf
-  performed-balanced (loads w after) op = by (has s w)
+  performed-balanced : (r : Row) → ((x : ℕ) → kindOf (kind f) x r ≡ kind f) → Balanced s t (performed s t l f r)
+  unfolding performed kindOf
+  performed-balanced (loads w after) alike = by (has s w)
     where
       by : (b : Bool) → Balanced s t (cond b (settled s t l f (after (rd s t w))) (refused 10, t))
-      by true = settled-balanced t (after (rd s t w)) (λ k. refl) long (op (rd s t w))
+      by true = settled-balanced t (after (rd s t w)) (λ k. refl) long (alike (rd s t w))
       by false = refused-balanced s t 10
-  performed-balanced (stores w v after) op = by (has s w) refl
+  performed-balanced (stores w v after) alike = by (has s w) refl
     where
       by : (b : Bool) → has s w ≡ b → Balanced s t (cond b (settled s (wr s t w v) l f after) (refused 10, t))
-      by true e = settled-balanced (wr s t w v) after (λ k. frame-wr s t k w e v) (rw wr-length long) (op 0)
+      by true e = settled-balanced (wr s t w v) after (λ k. frame-wr s t k w e v) (rw wr-length long) (alike 0)
       by false e = refused-balanced s t 10
-  performed-balanced (frees n after) op = by (has s (Next n)) refl
+  performed-balanced (frees n after) alike = by (has s (Next n)) refl
     where
       by : (b : Bool) → has s (Next n) ≡ b
           → Balanced s t (cond b (settled s (wr s (wr s t (Next n) 0) (Use n) 0) l f after) (refused 10, t))
       by true e =
           settled-balanced (wr s (wr s t (Next n) 0) (Use n) 0) after
           (λ k. frame-wr s (wr s t (Next n) 0) k (Use n) (has-use s n e) 0 ∙ frame-wr s t k (Next n) e 0)
-          (rw (wr-length, wr-length) long) (op 0)
+          (rw (wr-length, wr-length) long) (alike 0)
       by false e = refused-balanced s t 10
-  performed-balanced nothing op = refused-balanced s t 10
+  performed-balanced nothing alike = refused-balanced s t 10
 
 step-balanced : (s : Sizes) (t : List ℕ) → measured t ≡ Sized s → Balanced s t (stepSized s t)
 unfolding stepSized stepServed stepFrame counted
@@ -182,7 +183,7 @@ step-balanced s t m = by (serving s t (s .levels)) refl
         on : (b : Bool) → Balanced s t (cond b (performed s t l f (row (pointOf (f .point)) f l (level (s .levels)))) (refused 10, t))
         on true =
             performed-balanced s t l f m (serving-below s t (s .levels) l e) refl (serving-runs s t (s .levels) l e)
-            (row (pointOf (f .point)) f l (level (s .levels))) (op-kept (pointOf (f .point)) f l (level (s .levels)))
+            (row (pointOf (f .point)) f l (level (s .levels))) (kind-kept (pointOf (f .point)) f l (level (s .levels)))
         on false = refused-balanced s t 10
 
 running-is : (s : Sizes) (t : List ℕ) → measured t ≡ Sized s → running t ≡ runningBelow s t (s .levels)

@@ -6,14 +6,16 @@ use mathlib.Core.Bool.{Bool, true, false}
 use native.Mathlib.Omega.{arith}
 use native.Mathlib.Numerals.{add-one}
 use lib.ListN.{length, getD, take, replicate, length-replicate, drop-of-length-le}
+use lib.Seq.{getD-take}
 use lib.Dec.{ltb}
 use borrow.Author.Tests.{le-ltb}
 use Rattle.words.specs.declared.Queue.{Queue}
 use Rattle.words.specs.declared.Sizes.{Sizes}
-use Rattle.words.specs.Layout.{limits, words}
+use Rattle.words.specs.declared.Measured.the-variants.{Unfit}
+use Rattle.words.specs.Layout.{limits, measured, words}
 use Rattle.answers.specs.declared.End.{End}
 use Rattle.answers.specs.Said.{Said, refused, says, Run, after, an-end}
-use Rattle.steps.specs.Run.{runOf}
+use Rattle.steps.specs.Run.{runMeasured, runOf}
 use Rattle.fresh.specs.Fresh.{freshTable, freshOf}
 use Rattle.asks.specs.Listing.{listingOf}
 use Rattle.play.specs.Play.{Played, before, stepsOf}
@@ -35,6 +37,7 @@ use Rattle.outcomes.specs.Outcomes.{
   queuesNodes,
   endedIn,
   outcomeFrom,
+  outcomeOf,
 }
 
 -- ---- steps
@@ -69,6 +72,12 @@ pub steps-none : (x : Notes) (left : ℕ) (t : List ℕ) → left ≤ 0 → into
 unfolding stepsOf
 steps-none x zero t h = into-none x t
 steps-none x (suc n) t h = absurd (omega arith)
+
+-- no table
+pub steps-unfit : (x : Notes) (left : ℕ) (t : List ℕ) → measured t ≡ Unfit → into x (replaySteps left t) ≡ (x, t)
+unfolding runOf runMeasured ranPlayed
+steps-unfit x zero t m = steps-none x 0 t (omega arith)
+steps-unfit x (suc left) t m = steps-stopped x (suc left) t t (refused 1) (omega arith) (rw m) refl
 
 -- ---- operations
 
@@ -143,6 +152,25 @@ outcome-noted x y z w queues ops k path t u e m q = by (replayFrom k ops path 0 
         let noted : note x (p .0) ≡ y = ap (λ (v : Notes × List ℕ). v .0) e in
         let left : p .1 ≡ u = ap (λ (v : Notes × List ℕ). v .1) e in
         note-then x (p .0) (mark ∷ queuesNodes (p .1) 1 queues) noted (note-first y mark _ m (rw left q))
+
+-- the numbers behind the last steps are not looked at
+begin-same : (f g : List ℕ → Replay) (o : Op) (p : Replay) → ((u : List ℕ) → f u ≡ g u) → beginThen f o p ≡ beginThen g o p
+unfolding beginThen
+begin-same f g o p h = ap (before (p .0)) (h (begun o (p .1) .1))
+
+module _ (ops path : List ℕ) (n : ℕ) where
+  replay-take : (rest i : ℕ) (t : List ℕ) → i + rest < n → replayFrom rest ops (take n path) i t ≡ replayFrom rest ops path i t
+  unfolding replayFrom
+  replay-take zero i t h = ap (λ (c : ℕ). replaySteps c t) (getD-take n path i 0 (omega arith))
+  replay-take (suc rest) i t h =
+      let others : List ℕ → Replay = replayFrom rest ops (take n path) (i + 1) in
+      ap (λ (c : ℕ). beginThen others (opIn ops i) (replaySteps c t)) (getD-take n path i 0 (omega arith))
+      ∙ begin-same others (replayFrom rest ops path (i + 1)) (opIn ops i) (replaySteps (getD path i 0) t)
+      (λ u. replay-take rest (i + 1) u (omega arith))
+
+pub outcome-take : (s : Sizes) (ops : List ℕ) (k : ℕ) (path : List ℕ) → outcomeOf s ops k (take (k + 1) path) ≡ outcomeOf s ops k path
+unfolding outcomeOf outcomeFrom
+outcome-take s ops k path = ap (endedIn (s .queues)) (replay-take ops path (k + 1) k 0 (fresh s) (omega arith))
 
 -- ---- a fresh table in words that are just enough
 

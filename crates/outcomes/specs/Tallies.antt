@@ -4,7 +4,7 @@ use mathlib.Core.Path.{_≡_}
 use mathlib.Core.List.{List}
 use mathlib.Core.Bool.{Bool, true, cond, _&&_}
 use lib.ListN.{length, getD, set, replicate}
-use lib.Dec.{ltb, eqb}
+use lib.Dec.{leb, ltb, eqb}
 use Rattle.words.specs.declared.Sizes.{Sizes}
 use Rattle.words.specs.Layout.{limits, words}
 use Rattle.outcomes.specs.declared.Key.{Key}
@@ -62,14 +62,13 @@ counted ts key = countAt ts (knownIn ts) (placeFrom (knownIn ts) ts 0 key) key
 unfoldable pub countedOutcome : List ℕ → List ℕ → List ℕ
 countedOutcome ts xs = counted ts (keyOf (over (replicate 16 0) xs))
 
--- the schedule of the k operations and the steps before each and after the last is counted
+-- the schedule of the k operations and the steps before each and after the last is counted; tallies that are too short stay as they were
 unfoldable pub tallied : Sizes → List ℕ → ℕ → List ℕ → List ℕ → List ℕ
-tallied s ops k path ts = countedOutcome ts (outcomeOf s ops k path)
+tallied s ops k path ts = cond (leb 5122 (length ts)) (countedOutcome ts (outcomeOf s ops k path)) ts
 
--- what a schedule's counting takes: sizes within the limits, words for the table, at most six operations, and the tallies
-pub record Fitting (s : Sizes) (t ops : List ℕ) (k : ℕ) (ts : List ℕ) : Type 0 where
+-- what a schedule's counting takes: sizes within the limits, words for the table, and at most six operations
+pub record Fitting (s : Sizes) (t ops : List ℕ) (k : ℕ) : Type 0 where
   pub sized : limits s ≡ true
   pub table : words s ≤ length t
   pub few : k ≤ 6
   pub whole : 4 * k ≤ length ops
-  pub room : 5122 ≤ length ts

@@ -7,7 +7,7 @@ use native.Mathlib.Omega.{arith}
 use lib.ListN.{length, take, getD, replicate}
 use lib.Seq.{length-take-le}
 use lib.Dec.{eqb}
-use borrow.Author.Tests.{lt-ltb, le-ltb, eq-eqb, ne-eqb}
+use borrow.Author.Tests.{le-leb, lt-leb, lt-ltb, le-ltb, eq-eqb, ne-eqb}
 use Rattle.words.specs.declared.Sizes.{Sizes}
 use Rattle.words.specs.Layout.{limits, words}
 use Rattle.fresh.specs.Fresh.{freshOf}
@@ -15,7 +15,7 @@ use Rattle.outcomes.specs.declared.Key.{Key}
 use Rattle.outcomes.specs.Notes.{note, over}
 use Rattle.outcomes.specs.NotesLaws.{note-all}
 use Rattle.outcomes.specs.Outcomes.{outcomeFrom, outcomeOf}
-use Rattle.outcomes.specs.OutcomesLaws.{fresh-is}
+use Rattle.outcomes.specs.OutcomesLaws.{fresh-is, outcome-take}
 use Rattle.outcomes.specs.Tallies.{
   keyOf,
   knownIn,
@@ -96,17 +96,29 @@ module _ (ts : List ℕ) (n i : ℕ) (key : Key) (known : n ≡ knownIn ts) (pla
   unfolding countAt
   count-other h l = count-is ∙ rw (le-ltb i n h, le-ltb n 1024 l) refl
 
+-- ---- the schedule is counted
+
 -- the first r of the words t are the table's
-pub tallied-is : (s : Sizes) (ops : List ℕ) (k : ℕ) (path t ts notes : List ℕ) (r : ℕ) (key : Key)
+pub tallied-is : (s : Sizes) (ops : List ℕ) (k : ℕ) (path t ts notes : List ℕ) (r : ℕ) (key : Key) → 5122 ≤ length ts
     → note (0, replicate 16 0) (outcomeFrom (s .queues) ops k path (freshOf s (take r t) .1)) .1 ≡ notes → key ≡ keyOf notes
     → (words s ≤ length t → r ≡ words s) → limits s ≡ true → words s ≤ length t → counted ts key ≡ tallied s ops k path ts
 unfolding tallied countedOutcome outcomeOf
-tallied-is s ops k path t ts notes r key e f w l h =
+tallied-is s ops k path t ts notes r key m e f w l h =
     let just : r ≡ words s = w h in
     let long : length (take r t) ≡ words s = length-take-le r t (omega arith) ∙ just in
-    ap (counted ts)
+    rw (le-leb 5122 (length ts) m)
+    (ap (counted ts)
     (f
     ∙ ap keyOf
     (sym e
     ∙ note-all (replicate 16 0) _
-    ∙ ap (λ (u : List ℕ). over (replicate 16 0) (outcomeFrom (s .queues) ops k path u)) (fresh-is s (take r t) l long)))
+    ∙ ap (λ (u : List ℕ). over (replicate 16 0) (outcomeFrom (s .queues) ops k path u)) (fresh-is s (take r t) l long))))
+
+pub tallied-short : (s : Sizes) (ops : List ℕ) (k : ℕ) (path ts : List ℕ) → length ts < 5122 → ts ≡ tallied s ops k path ts
+unfolding tallied
+tallied-short s ops k path ts h = rw (lt-leb 5122 (length ts) h) refl
+
+-- the numbers behind the last steps are not looked at
+pub tallied-take : (s : Sizes) (ops : List ℕ) (k : ℕ) (path ts : List ℕ) → tallied s ops k (take (k + 1) path) ts ≡ tallied s ops k path ts
+unfolding tallied
+tallied-take s ops k path ts = rw (outcome-take s ops k path) refl

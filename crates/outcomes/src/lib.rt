@@ -5,7 +5,8 @@ ghost use mathlib.Core.Bool.{true};
 ghost use Prim.Native.Nat.{_+_, _*_, _%_, _≤_, _<_};
 ghost use mathlib.Core.List.{[], _∷_};
 ghost use lib.ListN.{length, take};
-ghost use Rattle.words.specs.Layout.{limits, words};
+ghost use Rattle.words.specs.declared.Measured.the-variants.{Sized};
+ghost use Rattle.words.specs.Layout.{limits, measured, words};
 ghost use Rattle.fresh.specs.Fresh.{freshOf};
 ghost use Rattle.loglines.specs.Ink.{ink};
 ghost use Rattle.outcomes.specs.Notes.{noteOne, note};
@@ -52,6 +53,7 @@ use answers::Counted;
 use answers::End;
 use answers::Ran;
 use loglines::Pen;
+use words::Measured;
 use words::Queue;
 use words::Sizes;
 
@@ -120,14 +122,15 @@ fn note_end(notes: &mut [u16], n: usize, e: End) -> usize
     }
 }
 
-// Takes so many steps, and notes what was returned.
-fn replay_steps(t: &mut [u16], count: u16, notes: &mut [u16], n: usize) -> usize
+// Takes so many steps of a table that was measured, and notes what was returned.
+fn replay_sized(t: &mut [u16], s: Sizes, count: u16, notes: &mut [u16], n: usize) -> usize
+    requires { ⌜ measured (now t) ≡ Sized s ⌝ }
     ensures { λ r. ⌜ into (n, now (notes .entry)) (replaySteps count (now (t .entry))) ≡ ((r, now (notes .exit)), now (t .exit)) ⌝ }
 {
     let mut at = n;
     let mut left = count;
     while 0 < left {
-        match steps::run(t, left) {
+        match steps::run_sized(t, s, left) {
             Ran::Ended(k, e) => {
                 at = note_end(notes, at, e);
                 left -= k;
@@ -147,6 +150,16 @@ fn replay_steps(t: &mut [u16], count: u16, notes: &mut [u16], n: usize) -> usize
         }
     }
     at
+}
+
+// Takes so many steps, and notes what was returned.
+fn replay_steps(t: &mut [u16], count: u16, notes: &mut [u16], n: usize) -> usize
+    ensures { λ r. ⌜ into (n, now (notes .entry)) (replaySteps count (now (t .entry))) ≡ ((r, now (notes .exit)), now (t .exit)) ⌝ }
+{
+    match words::measure(t) {
+        Measured::Sized(s) => replay_sized(t, s, count, notes, n),
+        Measured::Unfit => n,
+    }
 }
 
 // Replays the k operations, each after its steps, and the steps after the last; notes what was returned.
@@ -368,8 +381,8 @@ fn tally_fitting(
 }
 
 // Counts the schedule of these k operations, four words each, with path[i] steps before operation i begins and path[k] after the last.
-// The words t are lent for the table. Nothing is counted where the operations or the tallies do not fit; of sizes that are refused, or of
-// too few words t, the contract says nothing.
+// The words t are lent for the table. Tallies that are too short stay as they were. Of operations that do not fit, of sizes that are
+// refused and of too few words t the contract says nothing; no operations that do not fit are counted.
 pub fn tally(
     t: &mut [u16],
     levels: u16,
@@ -380,7 +393,7 @@ pub fn tally(
     path: [u16; 7],
     tallies: &mut [u64],
 )
-    ensures { λ _. ⌜ (Fitting (sizes levels queues nodes) (now (t .entry)) (now (ops .entry)) k (now (tallies .entry))
+    ensures { λ _. ⌜ (Fitting (sizes levels queues nodes) (now (t .entry)) (now (ops .entry)) k
         → now (tallies .exit) ≡ tallied (sizes levels queues nodes) (now (ops .entry)) k path (now (tallies .entry))) ⌝ }
 {
     if 6 < k {

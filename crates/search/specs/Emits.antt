@@ -17,11 +17,13 @@ use Rattle.ways.specs.declared.Tail.the-variants.{Ends, Cut}
 use Rattle.ways.specs.Schedules.{opsIn}
 use Rattle.entries.specs.Texts.{first, others, eventsOf}
 use Rattle.entries.specs.Entries.{text-length}
+use Rattle.outcomes.specs.Tallies.{tallied}
+use Rattle.outcomes.specs.TalliesLaws.{tallied-take}
 use Rattle.search.specs.declared.Asked.{Asked}
 use Rattle.search.specs.declared.Listed.{Listed}
 use Rattle.search.specs.declared.What.{What}
 use Rattle.search.specs.declared.What.the-variants.{Count, Tally, Measure, Write}
-use Rattle.search.specs.Walk.{opsOf, entryText, State, more, shut, entered, emitted, tailed}
+use Rattle.search.specs.Walk.{sizesOf, opsOf, entryText, State, more, shut, fits, noted, written, entered, emitted, tailed}
 use Rattle.search.specs.Laws.{count-more}
 
 -- ---- the text by the counts that are used of a path
@@ -82,26 +84,25 @@ room-off all at n y = let z : _≡_ {A = ℕ} 0 1 = cc in absurd (omega arith)
 
 -- ---- measured or written, where it fits and where it does not
 
-module _ (text room : List ℕ) (l r : Listed) (n : ℕ) (b : Bool) (size : n ≡ length text) (tested : b ≡ leb (l .at + n) (length room)) where
-  test : leb (l .at + length text) (length room) ≡ b
+module _ (text room : List ℕ) (l : Listed) (n : ℕ) (b : Bool) (size : n ≡ length text) (tested : b ≡ leb (l .at + n) (length room)) where
+  test : fits text l room ≡ b
   test = ap (λ (i : ℕ). leb (l .at + i) (length room)) (sym size) ∙ sym tested
 
-  pub measured-fits : b ≡ true → r ≡ more n l → entered Measure text (l, room) ≡ (r, room)
-  unfolding entered
-  measured-fits y e = rw (test, y, ← size, e) refl
+  pub measured-fits : (r : Listed) → b ≡ true → r ≡ more n l → r ≡ noted text l room
+  unfolding noted
+  measured-fits r y e = rw (test, y, ← size, e) refl
 
-  pub measured-full : b ≡ false → r ≡ shut true l → entered Measure text (l, room) ≡ (r, room)
-  unfolding entered
-  measured-full y e = rw (test, y, e) refl
+  pub measured-full : (r : Listed) → b ≡ false → r ≡ shut true l → r ≡ noted text l room
+  unfolding noted
+  measured-full r y e = rw (test, y, e) refl
 
-  pub written-fits : (out x : List ℕ) (to : ℕ) → b ≡ true → r ≡ more n l → text ≡ x → Put to out room (l .at) x
-      → entered Write text (l, room) ≡ (r, out)
-  unfolding entered
-  written-fits out x to y e f p = rw (test, y, ← size, e, f, p .is) refl
+  pub written-fits : (out x : List ℕ) (to : ℕ) → b ≡ true → text ≡ x → Put to out room (l .at) x → out ≡ written text l room
+  unfolding written
+  written-fits out x to y f p = rw (test, y, f, p .is) refl
 
-  pub written-full : b ≡ false → r ≡ shut true l → entered Write text (l, room) ≡ (r, room)
-  unfolding entered
-  written-full y e = rw (test, y, e) refl
+  pub written-full : b ≡ false → room ≡ written text l room
+  unfolding written
+  written-full y = rw (test, y) refl
 
 -- ---- one schedule more
 
@@ -110,34 +111,52 @@ module _ (a : Asked) (ws : List ℕ) where
   unfolding emitted
   emit-closed cs st h = rw h refl
 
-  pub emit-bound : (cs : List ℕ) (l r : Listed) (room : List ℕ) → l .closed ≡ false → a .bound ≤ l .count → r ≡ shut (l .full) l
-      → emitted a ws cs (l, room) ≡ (r, room)
+  pub emit-bound : (cs : List ℕ) (l r : Listed) (lent : List ℕ × List ℕ) → l .closed ≡ false → a .bound ≤ l .count
+      → r ≡ shut (l .full) l → emitted a ws cs (l, lent) ≡ (r, lent)
   unfolding emitted
-  emit-bound cs l r room h k e = rw (h, le-leb (a .bound) (l .count) k, e) refl
+  emit-bound cs l r lent h k e = rw (h, le-leb (a .bound) (l .count) k, e) refl
 
-  emit-open : (cs : List ℕ) (st : State) → st .0 .closed ≡ false → st .0 .count < a .bound
-      → emitted a ws cs st ≡ entered (a .what) (entryText a ws cs) st
+  pub emit-open : (cs : List ℕ) (st : State) → st .0 .closed ≡ false → st .0 .count < a .bound
+      → emitted a ws cs st ≡ entered a ws cs (a .what) st
   unfolding emitted
   emit-open cs st h k = rw (h, lt-leb (a .bound) (st .0 .count) k) refl
 
-  pub emit-on : (path : List ℕ) (st out : State) (w : What) → st .0 .closed ≡ false → st .0 .count < a .bound → a .what ≡ w
-      → entered w (entryText a ws path) st ≡ out
-      → emitted a ws (take (a .operations + 1) path) st ≡ out
-  emit-on path st out w h k e f =
-      emit-open (take (a .operations + 1) path) st h k
-      ∙ ap (λ (v : What). entered v (entryText a ws (take (a .operations + 1) path)) st) e
-      ∙ ap (λ (x : List ℕ). entered w x st) (entry-take a ws path)
-      ∙ f
-
-  pub counted-so : (path : List ℕ) (l r : Listed) (room : List ℕ) → l .closed ≡ false → l .count < a .bound → a .what ≡ Count
-      → r ≡ more 0 l → emitted a ws (take (a .operations + 1) path) (l, room) ≡ (r, room)
+  -- by the counts that are used of a path
+  entered-take : (path : List ℕ) (w : What) (st : State) → entered a ws (take (a .operations + 1) path) w st ≡ entered a ws path w st
   unfolding entered
-  counted-so path l r room h k e f = emit-on path (l, room) (r, room) Count h k e (rw f refl)
+  entered-take path Count st = refl
+  entered-take path Tally st = rw (tallied-take (sizesOf a) ws (a .operations) path (st .1 .1)) refl
+  entered-take path Measure st = rw (entry-take a ws path) refl
+  entered-take path Write st = rw (entry-take a ws path) refl
 
-  pub tallied-so : (path : List ℕ) (l r : Listed) (room : List ℕ) → l .closed ≡ false → l .count < a .bound → a .what ≡ Tally
-      → r ≡ more 0 l → emitted a ws (take (a .operations + 1) path) (l, room) ≡ (r, room)
-  unfolding entered
-  tallied-so path l r room h k e f = emit-on path (l, room) (r, room) Tally h k e (rw f refl)
+  module _ (path : List ℕ) (l r : Listed) (room ts : List ℕ) (going : l .closed ≡ false) (wanted : l .count < a .bound) where
+    emit-on : (w : What) (out : State) → a .what ≡ w → entered a ws path w (l, (room, ts)) ≡ out
+        → emitted a ws (take (a .operations + 1) path) (l, (room, ts)) ≡ out
+    emit-on w out e f =
+        emit-open (take (a .operations + 1) path) (l, (room, ts)) going wanted
+        ∙ entered-take path (a .what) (l, (room, ts))
+        ∙ ap (λ (v : What). entered a ws path v (l, (room, ts))) e
+        ∙ f
+
+    pub counted-so : a .what ≡ Count → r ≡ more 0 l → emitted a ws (take (a .operations + 1) path) (l, (room, ts)) ≡ (r, (room, ts))
+    unfolding entered
+    counted-so e f = emit-on Count (r, (room, ts)) e (rw f refl)
+
+    pub tallied-so : (us : List ℕ) → a .what ≡ Tally → r ≡ more 0 l → us ≡ tallied (sizesOf a) ws (a .operations) path ts
+        → emitted a ws (take (a .operations + 1) path) (l, (room, ts)) ≡ (r, (room, us))
+    unfolding entered
+    tallied-so us e f g = emit-on Tally (r, (room, us)) e (rw (f, g) refl)
+
+    pub measured-so : a .what ≡ Measure → r ≡ noted (entryText a ws path) l room
+        → emitted a ws (take (a .operations + 1) path) (l, (room, ts)) ≡ (r, (room, ts))
+    unfolding entered
+    measured-so e f = emit-on Measure (r, (room, ts)) e (rw f refl)
+
+    pub written-so : (out : List ℕ) → a .what ≡ Write → r ≡ noted (entryText a ws path) l room
+        → out ≡ written (entryText a ws path) l room
+        → emitted a ws (take (a .operations + 1) path) (l, (room, ts)) ≡ (r, (out, ts))
+    unfolding entered
+    written-so out e f g = emit-on Write (r, (out, ts)) e (rw (f, g) refl)
 
   -- ---- the steps after the last begin
 

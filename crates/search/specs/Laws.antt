@@ -7,15 +7,17 @@ use native.Mathlib.Omega.{arith}
 use native.Mathlib.Numerals.{add-one, sub-one}
 use lib.ListN.{length, take, set, replicate, length-replicate}
 use lib.Seq.{take-suc-set, length-take-le}
+use Rattle.words.specs.Layout.{agrees}
+use Rattle.words.specs.Laws.{and-true, measured-agrees, measured-fits}
 use Rattle.ways.specs.declared.Op.{Op}
 use Rattle.ways.specs.declared.Tail.{Tail}
 use Rattle.ways.specs.declared.Tail.the-variants.{Ends, Cut}
 use Rattle.ways.specs.Schedules.{opIn, opsIn, Move, step, begin, Tried, begun, stepped, idle, ending, after, byStep, byBegin, both}
-use Rattle.ways.specs.Forced.{endIn, stretched, lastIn}
+use Rattle.ways.specs.Forced.{endIn, stretched, goneOn, lastIn, TableOf}
 use Rattle.ways.specs.Stretches.{stretch-low}
 use Rattle.entries.specs.Texts.{counts}
 use Rattle.search.specs.declared.Asked.{Asked}
-use Rattle.search.specs.Walk.{State, emitted, tailed, listing}
+use Rattle.search.specs.Walk.{sizesOf, State, emitted, tailed, listing, Roomy}
 
 -- one count more
 pub count-more : (path : List ℕ) (i n : ℕ) → i < length path → take (i + 1) (set path i n) ≡ take i path ++ (n ∷ [])
@@ -25,8 +27,15 @@ pub last-path : (path : List ℕ) (i n k : ℕ) → k ≡ i + 1 → i < length p
 last-path path i n k e h = ap (λ (j : ℕ). take j (set path i n)) e ∙ count-more path i n h
 
 -- a part of the saved words
-pub part-length : (n : ℕ) → n ≤ 2276 → length (take n (replicate {A = ℕ} 2276 0)) ≡ n
-part-length n h = length-take-le n (replicate {A = ℕ} 2276 0) (omega (arith, h, length-replicate {A = ℕ} 2276 0))
+pub part-length : (n all : ℕ) → n ≤ all → length (take n (replicate {A = ℕ} all 0)) ≡ n
+part-length n all h = length-take-le n (replicate {A = ℕ} all 0) (omega (arith, h, length-replicate {A = ℕ} all 0))
+
+-- a copy of the table has the words that an outcome's table takes
+pub copied : (a : Asked) (t : List ℕ) (copy : ℕ) → TableOf (sizesOf a) t → copy ≡ length t → Roomy copy a
+unfolding agrees
+copied a t copy m e =
+    let agree = measured-agrees t (sizesOf a) m .1 in
+    (and-true _ _ (and-true _ _ agree .0) .0, omega (arith, e, measured-fits t (sizesOf a) m .room))
 
 module _ (a : Asked) (ws : List ℕ) where
   abbrev L : List ℕ → ℕ → List (List Move) → State → State
@@ -86,6 +95,16 @@ module _ (a : Asked) (ws pre : List ℕ) where
   no-begin zero n t o os st h = refl
   no-begin (suc left) n t o os st h = rw h refl
 
+  pub begin-none : (n left : ℕ) (t : List ℕ) (ops : List Op) (st : State) → left ≡ 0 → listing a ws pre n (byBegin left t ops) st ≡ st
+  unfolding byStep listing
+  begin-none n zero t ops st h = refl
+  begin-none n (suc k) t ops st h = absurd (omega arith)
+
+  pub step-none : (n left : ℕ) (t : List ℕ) (ops : List Op) (st : State) → left ≡ 0 → listing a ws pre n (byStep left t ops) st ≡ st
+  unfolding byStep listing
+  step-none n zero t ops st h = refl
+  step-none n (suc k) t ops st h = absurd (omega arith)
+
   none-left : (n : ℕ) (t : List ℕ) (ops : List Op) (st : State) → listing a ws pre n (both 0 t ops) st ≡ st
   unfolding byStep listing
   none-left n t ops st = refl
@@ -128,7 +147,36 @@ module _ (a : Asked) (ws pre : List ℕ) where
           ∙ no-step (suc left) n t o os st f
           ∙ sym (none-left (n + (suc left - 0)) (stepped t .1) (o ∷ os) st)
 
-  -- first by a step and then by a begin, after the stretch
+  -- and what follows a step is what follows after it and the stretch behind it
+  gone-is : (left n : ℕ) (t : List ℕ) (o : Op) (os : List Op) (st : State)
+      → listing a ws pre n (byStep left t (o ∷ os)) st
+      ≡ listing a ws pre (n + (left - goneOn o left t .0)) (both (goneOn o left t .0) (goneOn o left t .1) (o ∷ os)) st
+  unfolding goneOn
+  gone-is zero n t o os st = step-none n 0 t (o ∷ os) st refl ∙ sym (none-left (n + (0 - 0)) t (o ∷ os) st)
+  gone-is (suc left) n t o os st = by (stepped t .0) refl
+    where
+      v : ℕ × List ℕ
+      v = stretched o left (stepped t .1)
+
+      by : (b : Bool) → stepped t .0 ≡ b
+          → listing a ws pre n (byStep (suc left) t (o ∷ os)) st
+          ≡ listing a ws pre (n + (suc left - cond {A = ℕ × List ℕ} b v (0, stepped t .1) .0))
+          (both (cond {A = ℕ × List ℕ} b v (0, stepped t .1) .0) (cond {A = ℕ × List ℕ} b v (0, stepped t .1) .1) (o ∷ os)) st
+      by true e =
+          let low = stretch-low o left (stepped t .1) in
+          let z : n + 1 + (left - v .0) ≡ n + (suc left - v .0) = omega (arith, low) in
+          by-step left n t (o ∷ os) st e
+          ∙ stretch-is left (n + 1) (stepped t .1) o os st
+          ∙ ap (λ (i : ℕ). listing a ws pre i (both (v .0) (v .1) (o ∷ os)) st) z
+      by false e = no-step (suc left) n t o os st e ∙ sym (none-left (n + (suc left - 0)) (stepped t .1) (o ∷ os) st)
+
+  -- first by a step and then by a begin
+  halves : (k m : ℕ) (v : List ℕ) (ops : List Op) (st mid out : State) → listing a ws pre m (byStep k v ops) st ≡ mid
+      → listing a ws pre m (byBegin k v ops) mid ≡ out → listing a ws pre m (both k v ops) st ≡ out
+  halves k m v ops st mid out f g =
+      listing-append a ws pre m (byStep k v ops) (byBegin k v ops) st ∙ ap (listing a ws pre m (byBegin k v ops)) f ∙ g
+
+  -- so, after the stretch
   both-on : (left n k m : ℕ) (t v : List ℕ) (o : Op) (os : List Op) (st mid out : State) → stretched o left t ≡ (k, v)
       → n + (left - k) ≡ m → listing a ws pre m (byStep k v (o ∷ os)) st ≡ mid
       → listing a ws pre m (byBegin k v (o ∷ os)) mid ≡ out
@@ -137,9 +185,7 @@ module _ (a : Asked) (ws pre : List ℕ) where
       stretch-is left n t o os st
       ∙ ap (λ (r : ℕ × List ℕ). listing a ws pre (n + (left - r .0)) (both (r .0) (r .1) (o ∷ os)) st) e
       ∙ ap (λ (i : ℕ). listing a ws pre i (both k v (o ∷ os)) st) z
-      ∙ listing-append a ws pre m (byStep k v (o ∷ os)) (byBegin k v (o ∷ os)) st
-      ∙ ap (listing a ws pre m (byBegin k v (o ∷ os))) f
-      ∙ g
+      ∙ halves k m v (o ∷ os) st mid out f g
 
   -- ---- all operations have begun
 
@@ -184,11 +230,6 @@ module _ (a : Asked) (ws pre : List ℕ) where
   tail-is left k t st = both-end left 0 t st ∙ step-end left 0 t st
 
 module _ (a : Asked) (ws pre : List ℕ) where
-  pub begin-none : (n left : ℕ) (t : List ℕ) (ops : List Op) (st : State) → left ≡ 0 → listing a ws pre n (byBegin left t ops) st ≡ st
-  unfolding byStep listing
-  begin-none n zero t ops st h = refl
-  begin-none n (suc k) t ops st h = absurd (omega arith)
-
   cut-so : (n : ℕ) (st : State) → tailed a ws (pre ++ (n ∷ [])) Cut st ≡ st
   unfolding tailed
   cut-so n st = refl
@@ -197,7 +238,7 @@ module _ (a : Asked) (ws pre : List ℕ) where
   last-is : (left n : ℕ) (t : List ℕ) (o : Op) (st : State)
       → listing a ws pre n (byBegin left t (o ∷ [])) st ≡ tailed a ws (pre ++ (n ∷ [])) (lastIn o left t) st
   unfolding lastIn
-  last-is zero n t o st = begin-none n 0 t (o ∷ []) st refl ∙ sym (cut-so n st)
+  last-is zero n t o st = begin-none a ws pre n 0 t (o ∷ []) st refl ∙ sym (cut-so n st)
   last-is (suc left) n t o st = by (begun o t .0) refl
     where
       by : (b : Bool) → begun o t .0 ≡ b
@@ -211,60 +252,54 @@ module _ (a : Asked) (ws pre : List ℕ) where
 
   -- ---- the explorers' ways
 
-  pub step-none : (n left : ℕ) (t : List ℕ) (ops : List Op) (st : State) → left ≡ 0 → listing a ws pre n (byStep left t ops) st ≡ st
-  unfolding byStep listing
-  step-none n zero t ops st h = refl
-  step-none n (suc k) t ops st h = absurd (omega arith)
-
-  step-on : (n left r i k m : ℕ) (t u v : List ℕ) (o : Op) (st mid out : State) (b : Bool) → b ≡ true → stepped t ≡ (b, u)
-      → o ≡ opIn ws i → stretched o left u ≡ (k, v) → k ≤ left → m ≡ n + (suc left - k)
-      → listing a ws pre m (byStep k v (opsIn (suc r) ws i)) st ≡ mid
-      → listing a ws pre m (byBegin k v (opsIn (suc r) ws i)) mid ≡ out
-      → listing a ws pre n (byStep (suc left) t (opsIn (suc r) ws i)) st ≡ out
+  step-on : (n left r i k m : ℕ) (t v : List ℕ) (o : Op) (st : State) → o ≡ opIn ws i → goneOn o left t ≡ (k, v) → m ≡ n + (left - k)
+      → listing a ws pre n (byStep left t (opsIn (suc r) ws i)) st ≡ listing a ws pre m (both k v (opsIn (suc r) ws i)) st
   unfolding opsIn
-  step-on n left r i k m t u v o st mid out b y e d s w z f g =
-      let q : n + 1 + (left - k) ≡ m = omega arith in
-      let taken : stepped t .0 ≡ true = ap (λ (x : Tried). x .0) e ∙ y in
-      let table : stepped t .1 ≡ u = ap (λ (x : Tried). x .1) e in
-      by-step a ws pre left n t (opsIn (suc r) ws i) st taken
-      ∙ ap (λ (x : List ℕ). listing a ws pre (n + 1) (both left x (opsIn (suc r) ws i)) st) table
-      ∙ both-on a ws pre left (n + 1) k m u v (opIn ws i) (opsIn r ws (i + 1)) st mid out (rw d at s) q f g
+  step-on n left r i k m t v o st d e z =
+      gone-is a ws pre left n t (opIn ws i) (opsIn r ws (i + 1)) st
+      ∙ ap (λ (x : ℕ × List ℕ). listing a ws pre (n + (left - x .0)) (both (x .0) (x .1) (opsIn (suc r) ws i)) st) (rw d at e)
+      ∙ ap (λ (j : ℕ). listing a ws pre j (both k v (opsIn (suc r) ws i)) st) (sym z)
 
-  pub step-more : (n left rest i k m : ℕ) (t u v : List ℕ) (o : Op) (st mid out : State) (b : Bool) → (left ≡ 0 → ⊥) → 1 ≤ rest
-      → b ≡ true → stepped t ≡ (b, u) → o ≡ opIn ws i → stretched o (left - 1) u ≡ (k, v) → k ≤ left - 1 → m ≡ n + (left - k)
+  pub step-more : (n left rest i k m : ℕ) (t v : List ℕ) (o : Op) (st mid out : State) → 1 ≤ rest → o ≡ opIn ws i
+      → goneOn o left t ≡ (k, v) → m ≡ n + (left - k)
       → listing a ws pre m (byStep k v (opsIn rest ws i)) st ≡ mid
       → listing a ws pre m (byBegin k v (opsIn rest ws i)) mid ≡ out
       → listing a ws pre n (byStep left t (opsIn rest ws i)) st ≡ out
-  step-more n zero rest i k m t u v o st mid out b h p y e d s w z f g = absurd (h refl)
-  step-more n (suc left) zero i k m t u v o st mid out b h p y e d s w z f g = absurd (omega arith)
-  step-more n (suc left) (suc r) i k m t u v o st mid out b h p y e d s w z f g =
-      step-on n left r i k m t u v o st mid out b y e d (simp sub-one at s) (omega arith) z f g
+  step-more n left zero i k m t v o st mid out p d e z f g = absurd (omega arith)
+  step-more n left (suc r) i k m t v o st mid out p d e z f g =
+      step-on n left r i k m t v o st d e z ∙ halves a ws pre k m v (opsIn (suc r) ws i) st mid out f g
+
+  -- no move is left
+  pub step-cut : (n left rest i k : ℕ) (t v : List ℕ) (o : Op) (st : State) → 1 ≤ rest → o ≡ opIn ws i → goneOn o left t ≡ (k, v) → k ≡ 0
+      → listing a ws pre n (byStep left t (opsIn rest ws i)) st ≡ st
+  step-cut n left rest i k t v o st p d e z =
+      let m : ℕ = n + (left - k) in
+      step-more n left rest i k m t v o st st st p d e refl (step-none a ws pre m k v (opsIn rest ws i) st z)
+      (begin-none a ws pre m k v (opsIn rest ws i) st z)
 
   -- where one operation remains
-  pub step-last : (n left rest i k m : ℕ) (t u v pre′ : List ℕ) (o : Op) (x : Tail) (st mid out : State) (b : Bool) → (left ≡ 0 → ⊥)
-      → rest ≡ 1 → b ≡ true → stepped t ≡ (b, u) → o ≡ opIn ws i → stretched o (left - 1) u ≡ (k, v) → k ≤ left - 1 → m ≡ n + (left - k)
-      → lastIn o k v ≡ x → pre′ ≡ pre ++ (m ∷ [])
+  pub step-last : (n left rest i k m : ℕ) (t v pre′ : List ℕ) (o : Op) (x : Tail) (st mid out : State) → rest ≡ 1 → o ≡ opIn ws i
+      → goneOn o left t ≡ (k, v) → m ≡ n + (left - k) → lastIn o k v ≡ x → pre′ ≡ pre ++ (m ∷ [])
       → listing a ws pre m (byStep k v (opsIn rest ws i)) st ≡ mid
       → tailed a ws pre′ x mid ≡ out
       → listing a ws pre n (byStep left t (opsIn rest ws i)) st ≡ out
   unfolding opsIn
-  step-last n zero rest i k m t u v pre′ o x st mid out b h p y e d s w z l q f g = absurd (h refl)
-  step-last n (suc left) rest i k m t u v pre′ o x st mid out b h p y e d s w z l q f g =
+  step-last n left rest i k m t v pre′ o x st mid out p d e z l q f g =
       let ending-so : tailed a ws (pre ++ (m ∷ [])) (lastIn (opIn ws i) k v) mid ≡ out =
       ap (λ (c : Op). tailed a ws (pre ++ (m ∷ [])) (lastIn c k v) mid) (sym d)
       ∙ ap (λ (c : Tail). tailed a ws (pre ++ (m ∷ [])) c mid) l
       ∙ ap (λ (c : List ℕ). tailed a ws c x mid) (sym q)
       ∙ g in
-      ap (λ (r : ℕ). listing a ws pre n (byStep (suc left) t (opsIn r ws i)) st) p
-      ∙ step-on n left 0 i k m t u v o st mid out b y e d (simp sub-one at s) (omega arith) z (rw p at f)
+      ap (λ (r : ℕ). listing a ws pre n (byStep left t (opsIn r ws i)) st) p
+      ∙ step-more n left 1 i k m t v o st mid out (omega arith) d e z (rw p at f)
       (last-is k m v (opIn ws i) mid ∙ ending-so)
 
-  pub step-stop : (n left rest i : ℕ) (t u : List ℕ) (st : State) (b : Bool) → 1 ≤ rest → b ≡ false → stepped t ≡ (b, u)
+  -- nothing runs
+  pub step-stop : (n left rest i : ℕ) (t : List ℕ) (st : State) → 1 ≤ rest → stepped t .0 ≡ false
       → listing a ws pre n (byStep left t (opsIn rest ws i)) st ≡ st
   unfolding opsIn
-  step-stop n left zero i t u st b p y e = absurd (omega arith)
-  step-stop n left (suc r) i t u st b p y e =
-      no-step a ws pre left n t (opIn ws i) (opsIn r ws (i + 1)) st (ap (λ (x : Tried). x .0) e ∙ y)
+  step-stop n left zero i t st p e = absurd (omega arith)
+  step-stop n left (suc r) i t st p e = no-step a ws pre left n t (opIn ws i) (opsIn r ws (i + 1)) st e
 
   pub begin-stop : (n left rest i : ℕ) (t u : List ℕ) (o : Op) (st : State) (b : Bool) → 1 ≤ rest → o ≡ opIn ws i
       → b ≡ false → begun o t ≡ (b, u) → listing a ws pre n (byBegin left t (opsIn rest ws i)) st ≡ st
@@ -301,6 +336,17 @@ module _ (a : Asked) (ws pre : List ℕ) where
       ∙ both-on a ws pre′ left 0 k m u v (opIn ws (i + 1)) (opsIn r ws (i + 1 + 1)) st mid out
       (simp (c, sub-one) at s) j (simp sub-one at f)
       (simp sub-one at g)
+
+  -- no move is left after it
+  pub begin-cut : (n left rest i k : ℕ) (t u v pre′ : List ℕ) (o o′ : Op) (st : State) (b : Bool) → (left ≡ 0 → ⊥) → 1 ≤ rest
+      → (rest ≡ 1 → ⊥) → o ≡ opIn ws i → b ≡ true → begun o t ≡ (b, u) → pre′ ≡ pre ++ (n ∷ []) → o′ ≡ opIn ws (i + 1)
+      → stretched o′ (left - 1) u ≡ (k, v) → k ≡ 0
+      → listing a ws pre n (byBegin left t (opsIn rest ws i)) st ≡ st
+  begin-cut n left rest i k t u v pre′ o o′ st b h p q d y e z c s x =
+      let m : ℕ = left - 1 - k in
+      begin-more n left rest i k m t u v pre′ o o′ st st st b h p q d y e z c s (omega (arith, x)) refl
+      (step-none a ws pre′ m k v (opsIn (rest - 1) ws (i + 1)) st x)
+      (begin-none a ws pre′ m k v (opsIn (rest - 1) ws (i + 1)) st x)
 
   pub begin-last : (n left rest i : ℕ) (t u pre′ : List ℕ) (o : Op) (x : Tail) (st out : State) (b : Bool) → (left ≡ 0 → ⊥) → rest ≡ 1
       → o ≡ opIn ws i → b ≡ true → begun o t ≡ (b, u) → pre′ ≡ pre ++ (n ∷ []) → endIn (left - 1) 0 u ≡ x → tailed a ws pre′ x st ≡ out

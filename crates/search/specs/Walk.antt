@@ -13,6 +13,7 @@ use Rattle.ways.specs.declared.Tail.{Tail}
 use Rattle.ways.specs.declared.Tail.the-variants.{Ends, Cut}
 use Rattle.ways.specs.Schedules.{Move, opsIn, schedules}
 use Rattle.entries.specs.Texts.{counts, eventsOf, eventsTextOf}
+use Rattle.outcomes.specs.Tallies.{tallied}
 use Rattle.search.specs.declared.Listed.{Listed}
 use Rattle.search.specs.declared.Asked.{Asked}
 use Rattle.search.specs.declared.What.{What}
@@ -28,9 +29,9 @@ opsOf a ws = opsIn (a .operations) ws 0
 unfoldable pub entryText : Asked → List ℕ → List ℕ → List ℕ
 entryText a ws cs = eventsTextOf (sizesOf a) (eventsOf cs (opsOf a ws))
 
--- what is listed so far, and the room
+-- what is listed so far, the room, and the tallies
 abbrev pub State : Type 0
-State = Listed × List ℕ
+State = Listed × (List ℕ × List ℕ)
 
 abbrev pub more : ℕ → Listed → Listed
 more n l = record { count = l .count + 1; at = l .at + n; closed = l .closed; full = l .full }
@@ -38,20 +39,27 @@ more n l = record { count = l .count + 1; at = l .at + n; closed = l .closed; fu
 abbrev pub shut : Bool → Listed → Listed
 shut full l = record { count = l .count; at = l .at; closed = true; full = full }
 
-abbrev pub fits : List ℕ → State → Bool
-fits text st = leb (st .0 .at + length text) (length (st .1))
+-- one text more in the room, if it fits
+abbrev pub fits : List ℕ → Listed → List ℕ → Bool
+fits text l room = leb (l .at + length text) (length room)
 
-unfoldable pub entered : What → List ℕ → State → State
-entered Count text st = (more 0 (st .0), st .1)
-entered Tally text st = (more 0 (st .0), st .1)
-entered Measure text st = cond (fits text st) (more (length text) (st .0), st .1) (shut true (st .0), st .1)
-entered Write text st = cond (fits text st) (more (length text) (st .0), sets (st .1) (st .0 .at) text) (shut true (st .0), st .1)
+unfoldable pub noted : List ℕ → Listed → List ℕ → Listed
+noted text l room = cond (fits text l room) (more (length text) l) (shut true l)
+
+unfoldable pub written : List ℕ → Listed → List ℕ → List ℕ
+written text l room = cond (fits text l room) (sets room (l .at) text) room
+
+-- what is done with the schedule that has these counts
+unfoldable pub entered : Asked → List ℕ → List ℕ → What → State → State
+entered a ws cs Count (l, (room, ts)) = (more 0 l, (room, ts))
+entered a ws cs Tally (l, (room, ts)) = (more 0 l, (room, tallied (sizesOf a) ws (a .operations) cs ts))
+entered a ws cs Measure (l, (room, ts)) = (noted (entryText a ws cs) l room, (room, ts))
+entered a ws cs Write (l, (room, ts)) = (noted (entryText a ws cs) l room, (written (entryText a ws cs) l room, ts))
 
 -- one schedule more, by its counts: nothing where no more is listed, or where as many are listed as are wanted
 unfoldable pub emitted : Asked → List ℕ → List ℕ → State → State
 emitted a ws cs st =
-    cond (st .0 .closed) st
-    (cond (leb (a .bound) (st .0 .count)) (shut (st .0 .full) (st .0), st .1) (entered (a .what) (entryText a ws cs) st))
+    cond (st .0 .closed) st (cond (leb (a .bound) (st .0 .count)) (shut (st .0 .full) (st .0), st .1) (entered a ws cs (a .what) st))
 
 -- the one schedule that ends so, after the counts that stand before
 unfoldable pub tailed : Asked → List ℕ → List ℕ → Tail → State → State
@@ -67,8 +75,8 @@ abbrev pub none : Listed
 none = record { count = 0; at = 0; closed = false; full = false }
 
 -- all of them, where nothing was before
-unfoldable pub listedOf : Asked → List ℕ → List ℕ → State
-listedOf a ws room = listing a ws [] 0 (schedules (sizesOf a) (opsOf a ws)) (none, room)
+unfoldable pub listedOf : Asked → List ℕ → List ℕ → List ℕ → State
+listedOf a ws room ts = listing a ws [] 0 (schedules (sizesOf a) (opsOf a ws)) (none, (room, ts))
 
 -- the same, of which another thing is asked
 abbrev pub asks : What → Asked → Asked
@@ -79,6 +87,10 @@ asks w a =
 
 abbrev pub Given : ℕ → Asked → Type 0
 Given ws a = (a .operations ≤ 6) × (4 * a .operations ≤ ws)
+
+-- the copy has the words of a table
+abbrev pub Roomy : ℕ → Asked → Type 0
+Roomy copy a = (limits (sizesOf a) ≡ true) × (words (sizesOf a) ≤ copy)
 
 -- operation i is the next of rest that remain, and n steps were taken since the last begin
 abbrev pub Exploring : ℕ → ℕ → ℕ → Asked → ℕ → ℕ → ℕ → ℕ → Type 0

@@ -5,11 +5,12 @@ ghost use mathlib.Core.Bool.{true};
 ghost use Prim.Native.Nat.{_+_, _≤_, _<_};
 ghost use lib.ListN.{length, take};
 ghost use lib.Dec.{leb};
-ghost use Rattle.ways.specs.Schedules.{opsIn, byStep, byBegin};
-ghost use Rattle.search.specs.declared.What.the-variants.{Measure, Write};
-ghost use Rattle.search.specs.Walk.{entryText, more, shut, entered, emitted, tailed, listing, Given, Exploring};
+ghost use Rattle.ways.specs.Schedules.{opIn, opsIn, begun, byStep, byBegin};
+ghost use Rattle.ways.specs.Forced.{TableOf};
+ghost use Rattle.search.specs.Walk.{sizesOf, entryText, more, shut, noted, written, emitted, tailed, listing, Given, Roomy, Exploring};
 use text::Opening;
 use ways::Tail;
+use words::Sizes;
 
 // What is done with each schedule: it is counted, its outcome is counted too, or its text is measured, or written.
 pub enum What {
@@ -37,8 +38,10 @@ pub struct Listed {
     pub full: bool,
 }
 
-// The most words that a table has.
+// The most words that a table has, and those of a table of few nodes: an array is cleared before it is used, so a small one is quicker.
 pub const WORDS: usize = 2276;
+
+const SMALL: usize = 256;
 
 // One schedule more, with so many bytes of text.
 fn one_more(listed: Listed, bytes: usize) -> Listed
@@ -88,7 +91,7 @@ fn has_room(all: usize, at: usize, n: usize) -> bool
 // One schedule more, whose text is measured only.
 fn measure_entry(asked: Asked, ops: &[u16], path: [u16; 7], listed: Listed, room: &[u8]) -> Listed
     requires { ⌜ Given (length (now ops)) asked × (listed .count < asked .bound) ⌝ }
-    ensures { λ r. ⌜ entered Measure (entryText asked (now (ops .entry)) path) (listed, now (room .entry)) ≡ (r, now (room .entry)) ⌝ }
+    ensures { λ r. ⌜ r ≡ noted (entryText asked (now (ops .entry)) path) listed (now (room .entry)) ⌝ }
 {
     let s = entries::events_size(ops, path, asked.operations);
     let n = lines::opening_length(opening_of(asked, s.events)) + s.bytes;
@@ -102,7 +105,8 @@ fn measure_entry(asked: Asked, ops: &[u16], path: [u16; 7], listed: Listed, room
 // One schedule more, whose text is written.
 fn write_entry(asked: Asked, ops: &[u16], path: [u16; 7], listed: Listed, room: &mut [u8]) -> Listed
     requires { ⌜ Given (length (now ops)) asked × (listed .count < asked .bound) ⌝ }
-    ensures { λ r. ⌜ entered Write (entryText asked (now (ops .entry)) path) (listed, now (room .entry)) ≡ (r, now (room .exit)) ⌝ }
+    ensures { λ r. ⌜ r ≡ noted (entryText asked (now (ops .entry)) path) listed (now (room .entry)) ⌝ }
+    ensures { λ _. ⌜ now (room .exit) ≡ written (entryText asked (now (ops .entry)) path) listed (now (room .entry)) ⌝ }
 {
     let s = entries::events_size(ops, path, asked.operations);
     let o = opening_of(asked, s.events);
@@ -126,8 +130,8 @@ fn emit(
     room: &mut [u8],
     tallies: &mut [u64],
 ) -> Listed
-    requires { ⌜ Given (length (now ops)) asked ⌝ }
-    ensures { λ r. ⌜ emitted asked (now (ops .entry)) (take (asked .operations + 1) path) (listed, now (room .entry)) ≡ (r, now (room .exit)) ⌝ }
+    requires { ⌜ Given (length (now ops)) asked × Roomy (length (now copy)) asked ⌝ }
+    ensures { λ r. ⌜ emitted asked (now (ops .entry)) (take (asked .operations + 1) path) (listed, (now (room .entry), now (tallies .entry))) ≡ (r, (now (room .exit), now (tallies .exit))) ⌝ }
 {
     if listed.closed {
         return listed;
@@ -167,8 +171,8 @@ pub fn emit_tail(
     room: &mut [u8],
     tallies: &mut [u64],
 ) -> Listed
-    requires { ⌜ Given (length (now ops)) asked ⌝ }
-    ensures { λ r. ⌜ tailed asked (now (ops .entry)) (take (asked .operations) path) tail (listed, now (room .entry)) ≡ (r, now (room .exit)) ⌝ }
+    requires { ⌜ Given (length (now ops)) asked × Roomy (length (now copy)) asked ⌝ }
+    ensures { λ r. ⌜ tailed asked (now (ops .entry)) (take (asked .operations) path) tail (listed, (now (room .entry), now (tallies .entry))) ≡ (r, (now (room .exit), now (tallies .exit))) ⌝ }
 {
     match tail {
         Tail::Ends(m) => {
@@ -181,10 +185,12 @@ pub fn emit_tail(
     }
 }
 
-// All that goes on with a step: operation i is the next of rest that remain, and n steps were taken since the last begin. The table is
-// used up. Where one operation remains, what follows its begin is tried on the copy before the step, so that nothing has to be saved.
+// All that goes on with a step: operation i is the next of rest that remain and is accepted now, and n steps were taken since the last
+// begin. The table is used up. Where one operation remains, what follows its begin is tried on the copy before the step, so that nothing
+// has to be saved.
 pub fn explore_step(
     t: &mut [u16],
+    s: Sizes,
     copy: &mut [u16],
     asked: Asked,
     ops: &[u16],
@@ -198,44 +204,25 @@ pub fn explore_step(
     tallies: &mut [u64],
 ) -> Listed
     requires { ⌜ Exploring (length (now t)) (length (now copy)) (length (now ops)) asked i rest left n ⌝ }
-    ensures { λ r. ⌜ listing asked (now (ops .entry)) (take i path) n (byStep left (now (t .entry)) (opsIn rest (now (ops .entry)) i)) (listed, now (room .entry)) ≡ (r, now (room .exit)) ⌝ }
+    requires { ⌜ TableOf s (now t) × (s ≡ sizesOf asked) × (begun (opIn (now ops) i) (now t) .0 ≡ true) ⌝ }
+    ensures { λ r. ⌜ listing asked (now (ops .entry)) (take i path) n (byStep left (now (t .entry)) (opsIn rest (now (ops .entry)) i)) (listed, (now (room .entry), now (tallies .entry))) ≡ (r, (now (room .exit), now (tallies .exit))) ⌝ }
 {
-    if left == 0 {
-        return listed;
-    }
     if listed.closed {
         return listed;
     }
-    if ways::take_step(t) {
-        let o = ways::op_in(ops, i);
-        let k = ways::stretch(t, o, left - 1);
-        let m = n + (left - k);
-        if rest == 1 {
-            let mut p = path;
-            p[i] = m;
-            let tail = ways::try_last(t, copy, o, k);
-            let first = explore_step(
-                t,
-                copy,
-                asked,
-                ops,
-                i,
-                rest,
-                k,
-                m,
-                path,
-                listed,
-                room,
-                tallies,
-            );
-            return emit_tail(tail, asked, ops, p, first, copy, room, tallies);
-        }
-        let mut saved = [0u16; WORDS];
-        let here = t.len();
-        let u = &mut saved[..here];
-        ways::copy_words(t, u);
+    let o = ways::op_in(ops, i);
+    let k = ways::go_on(t, s, o, left);
+    if k == 0 {
+        return listed;
+    }
+    let m = n + (left - k);
+    if rest == 1 {
+        let mut p = path;
+        p[i] = m;
+        let tail = ways::try_last(t, s, copy, o, k);
         let first = explore_step(
-            u,
+            t,
+            s,
             copy,
             asked,
             ops,
@@ -248,28 +235,44 @@ pub fn explore_step(
             room,
             tallies,
         );
-        explore_begin(
-            t,
-            copy,
-            asked,
-            ops,
-            i,
-            rest,
-            k,
-            m,
-            path,
-            first,
-            room,
-            tallies,
-        )
-    } else {
-        listed
+        return emit_tail(tail, asked, ops, p, first, copy, room, tallies);
     }
+    let first = explore_saved(
+        t,
+        s,
+        copy,
+        asked,
+        ops,
+        i,
+        rest,
+        k,
+        m,
+        path,
+        listed,
+        room,
+        tallies,
+    );
+    explore_begin(
+        t,
+        s,
+        copy,
+        asked,
+        ops,
+        i,
+        rest,
+        k,
+        m,
+        path,
+        first,
+        room,
+        tallies,
+    )
 }
 
-// All that goes on with the begin of operation i. The table is used up.
-pub fn explore_begin(
-    t: &mut [u16],
+// All that goes on with a step, on a table saved by value: one of few words, or the largest.
+fn explore_saved(
+    t: &[u16],
+    s: Sizes,
     copy: &mut [u16],
     asked: Asked,
     ops: &[u16],
@@ -283,7 +286,106 @@ pub fn explore_begin(
     tallies: &mut [u64],
 ) -> Listed
     requires { ⌜ Exploring (length (now t)) (length (now copy)) (length (now ops)) asked i rest left n ⌝ }
-    ensures { λ r. ⌜ listing asked (now (ops .entry)) (take i path) n (byBegin left (now (t .entry)) (opsIn rest (now (ops .entry)) i)) (listed, now (room .entry)) ≡ (r, now (room .exit)) ⌝ }
+    requires { ⌜ TableOf s (now t) × (s ≡ sizesOf asked) × (begun (opIn (now ops) i) (now t) .0 ≡ true) ⌝ }
+    ensures { λ r. ⌜ listing asked (now (ops .entry)) (take i path) n (byStep left (now (t .entry)) (opsIn rest (now (ops .entry)) i)) (listed, (now (room .entry), now (tallies .entry))) ≡ (r, (now (room .exit), now (tallies .exit))) ⌝ }
+{
+    if SMALL < t.len() {
+        return explore_large(
+            t,
+            s,
+            copy,
+            asked,
+            ops,
+            i,
+            rest,
+            left,
+            n,
+            path,
+            listed,
+            room,
+            tallies,
+        );
+    }
+    let mut saved = [0u16; SMALL];
+    let here = t.len();
+    let u = &mut saved[..here];
+    ways::copy_words(t, u);
+    explore_step(
+        u,
+        s,
+        copy,
+        asked,
+        ops,
+        i,
+        rest,
+        left,
+        n,
+        path,
+        listed,
+        room,
+        tallies,
+    )
+}
+
+fn explore_large(
+    t: &[u16],
+    s: Sizes,
+    copy: &mut [u16],
+    asked: Asked,
+    ops: &[u16],
+    i: usize,
+    rest: usize,
+    left: u16,
+    n: u16,
+    path: [u16; 7],
+    listed: Listed,
+    room: &mut [u8],
+    tallies: &mut [u64],
+) -> Listed
+    requires { ⌜ Exploring (length (now t)) (length (now copy)) (length (now ops)) asked i rest left n ⌝ }
+    requires { ⌜ TableOf s (now t) × (s ≡ sizesOf asked) × (begun (opIn (now ops) i) (now t) .0 ≡ true) ⌝ }
+    ensures { λ r. ⌜ listing asked (now (ops .entry)) (take i path) n (byStep left (now (t .entry)) (opsIn rest (now (ops .entry)) i)) (listed, (now (room .entry), now (tallies .entry))) ≡ (r, (now (room .exit), now (tallies .exit))) ⌝ }
+{
+    let mut saved = [0u16; WORDS];
+    let here = t.len();
+    let u = &mut saved[..here];
+    ways::copy_words(t, u);
+    explore_step(
+        u,
+        s,
+        copy,
+        asked,
+        ops,
+        i,
+        rest,
+        left,
+        n,
+        path,
+        listed,
+        room,
+        tallies,
+    )
+}
+
+// All that goes on with the begin of operation i. The table is used up.
+pub fn explore_begin(
+    t: &mut [u16],
+    s: Sizes,
+    copy: &mut [u16],
+    asked: Asked,
+    ops: &[u16],
+    i: usize,
+    rest: usize,
+    left: u16,
+    n: u16,
+    path: [u16; 7],
+    listed: Listed,
+    room: &mut [u8],
+    tallies: &mut [u64],
+) -> Listed
+    requires { ⌜ Exploring (length (now t)) (length (now copy)) (length (now ops)) asked i rest left n ⌝ }
+    requires { ⌜ TableOf s (now t) × (s ≡ sizesOf asked) ⌝ }
+    ensures { λ r. ⌜ listing asked (now (ops .entry)) (take i path) n (byBegin left (now (t .entry)) (opsIn rest (now (ops .entry)) i)) (listed, (now (room .entry), now (tallies .entry))) ≡ (r, (now (room .exit), now (tallies .exit))) ⌝ }
 {
     if left == 0 {
         return listed;
@@ -291,23 +393,22 @@ pub fn explore_begin(
     if listed.closed {
         return listed;
     }
-    if ways::take_begin(t, ways::op_in(ops, i)) {
+    if ways::begin_sized(t, s, ways::op_in(ops, i)) {
         let mut p = path;
         p[i] = n;
         if rest == 1 {
-            let tail = ways::steps_left(t, left - 1);
+            let tail = ways::steps_left(t, s, left - 1);
             return emit_tail(tail, asked, ops, p, listed, copy, room, tallies);
         }
         let j = i + 1;
         let r = rest - 1;
-        let k = ways::stretch(t, ways::op_in(ops, j), left - 1);
+        let k = ways::stretch(t, s, ways::op_in(ops, j), left - 1);
+        if k == 0 {
+            return listed;
+        }
         let m = left - 1 - k;
-        let mut saved = [0u16; WORDS];
-        let here = t.len();
-        let u = &mut saved[..here];
-        ways::copy_words(t, u);
-        let first = explore_step(u, copy, asked, ops, j, r, k, m, p, listed, room, tallies);
-        explore_begin(t, copy, asked, ops, j, r, k, m, p, first, room, tallies)
+        let first = explore_saved(t, s, copy, asked, ops, j, r, k, m, p, listed, room, tallies);
+        explore_begin(t, s, copy, asked, ops, j, r, k, m, p, first, room, tallies)
     } else {
         listed
     }

@@ -15,8 +15,7 @@ use Rattle.words.specs.declared.Word.{Word}
 use Rattle.words.specs.declared.Word.the-variants as word
 use Rattle.words.specs.Layout.{level, words, has, rd, wr, frameOf, putFrame, noFrame}
 use Rattle.words.specs.Laws.{has-use, rd-put, frame-same, put-put, put-wr}
-use Rattle.answers.specs.Said as said
-use Rattle.answers.specs.Said.{Said, refused, says, Step, going-on, ended, Run}
+use Rattle.answers.specs.Said.{Said, refused, Step}
 use Rattle.table.specs.Points.{pointOf}
 use Rattle.table.specs.Frames.{counted}
 use Rattle.table.specs.Table.{Row, loads, stores, frees, nothing, row}
@@ -25,12 +24,12 @@ use Rattle.table.specs.declared.After.{After}
 use Rattle.table.specs.declared.After.the-variants.{Go, Done}
 use Rattle.table.specs.declared.Turned.{Turned}
 use Rattle.table.specs.declared.Turned.the-variants.{Next, Stray}
-use Rattle.steps.specs.declared.Served.the-variants.{At, Nobody}
+use Rattle.steps.specs.declared.Served.the-variants.{At}
 use Rattle.steps.specs.declared.Held.{Held}
 use Rattle.steps.specs.declared.Held.the-variants.{Damaged}
 use Rattle.steps.specs.Step.{Out, serving, sound, settled, performed, stepFrame, stepServed, stepSized}
 use Rattle.steps.specs.Run.{ranOn, runFrom}
-use Rattle.steps.specs.Held.{followed, follow, held, back, stepOfRun}
+use Rattle.steps.specs.Held.{followed, follow, held, back}
 
 -- ---- the search for the level to serve, from i downwards
 
@@ -122,7 +121,7 @@ module _ (s : Sizes) (t : List ℕ) (l : Level) (f g : Frame) where
   performed-held nothing = refl
 
 -- the step of a table is that of its frame held beside it, put back
-step-held : (s : Sizes) (t : List ℕ) (l : Level) (f : Frame) → words s ≤ length t → l .0 < s .levels
+pub step-held : (s : Sizes) (t : List ℕ) (l : Level) (f : Frame) → words s ≤ length t → l .0 < s .levels
     → serving s (putFrame s t l f) (s .levels) ≡ At l
     → stepSized s (putFrame s t l f) ≡ back s l f (held s t l (counted f) .0) (held s t l (counted f) .1)
 unfolding stepSized stepServed stepFrame held back
@@ -156,57 +155,3 @@ pub run-held : (s : Sizes) (left b n : ℕ) (t u : List ℕ) (l : Level) (f : Fr
 run-held s left b n t u l f h room below e p q k =
     run-more s left b n (putFrame s t l f) (back s l f h u .1) (back s l f h u .0) p q
     (step-held s t l f room below e ∙ ap (λ (x : Held × List ℕ). back s l f (x .0) (x .1)) k)
-
-pub run-idle : (s : Sizes) (budget : ℕ) (t : List ℕ) → (budget ≡ 0 → ⊥) → serving s t (s .levels) ≡ Nobody
-    → runFrom s budget 0 t ≡ (says (said.after 0 said.nothing-runs), t)
-unfolding runFrom ranOn stepSized stepServed
-run-idle s zero t h e = absurd (h refl)
-run-idle s (suc b) t h e = rw e
-
--- ---- a step by a run of one
-
--- a step of a level that runs is refused by 10 only
-Only10 : Said Step → Type 0
-Only10 (refused r) = r ≡ 10
-Only10 (says x) = Unit
-
-settled-only : (s : Sizes) (t : List ℕ) (l : Level) (f : Frame) (a : After) → Only10 (settled s t l f a .0)
-unfolding settled Only10
-settled-only s t l f (Go g) = tt
-settled-only s t l f (Done n) = tt
-
-either-only : (b : Bool) (x : Out) (t : List ℕ) → Only10 (x .0) → Only10 (cond b x (refused 10, t) .0)
-unfolding Only10
-either-only true x t h = h
-either-only false x t h = refl
-
-performed-only : (s : Sizes) (t : List ℕ) (l : Level) (f : Frame) (r : Row) → Only10 (performed s t l f r .0)
-unfolding performed Only10
-performed-only s t l f (loads w after) =
-    either-only (has s w) (settled s t l f (after (rd s t w))) t (settled-only s t l f (after (rd s t w)))
-performed-only s t l f (stores w v after) =
-    either-only (has s w) (settled s (wr s t w v) l f after) t (settled-only s (wr s t w v) l f after)
-performed-only s t l f (frees n after) =
-    let u = wr s (wr s t (word.Next n) 0) (word.Use n) 0 in
-    either-only (has s (word.Next n)) (settled s u l f after) t (settled-only s u l f after)
-performed-only s t l f nothing = refl
-
-served-only : (s : Sizes) (t : List ℕ) (l : Level) → serving s t (s .levels) ≡ At l → Only10 (stepSized s t .0)
-unfolding stepSized stepServed stepFrame
-served-only s t l e =
-    let g = counted (frameOf s t l) in
-    let r = row (pointOf (g .point)) g l (level (s .levels)) in
-    rw e (either-only (sound s g) (performed s t l g r) t (performed-only s t l g r))
-
-pub step-of-run : (s : Sizes) (t u : List ℕ) (l : Level) (y : Said Run) → serving s t (s .levels) ≡ At l
-    → runFrom s 1 0 t ≡ (y, u) → stepSized s t ≡ (stepOfRun y, u)
-unfolding runFrom ranOn Only10
-step-of-run s t u l y e h = by (stepSized s t .0) (stepSized s t .1) (served-only s t l e) h
-  where
-    of : Said Run × List ℕ → Out
-    of z = (stepOfRun (z .0), z .1)
-
-    by : (x : Said Step) (v : List ℕ) → Only10 x → ranOn 0 (runFrom s 0) x v ≡ (y, u) → _≡_ {A = Out} (x, v) (stepOfRun y, u)
-    by (says going-on) v o k = ap of k
-    by (says (ended e)) v o k = ap of k
-    by (refused n) v o k = rw o (ap of (rw o at k))

@@ -1,7 +1,10 @@
 pub mod Step
 pub mod Run
+pub mod Whole
 pub mod Held
 pub mod Laws
 pub mod Keeping
 pub mod Holding
 pub mod Singly
+pub mod After
+pub mod Levels

@@ -1,10 +1,14 @@
 // One step of the highest level that runs, and a run of steps with a budget.
 ghost use mathlib.Core.Path.{_≡_};
+ghost use Prim.Native.Nat.{_≤_};
 ghost use Rattle.words.specs.Inner.{Fits};
+ghost use Rattle.words.specs.Layout.{measured};
+ghost use Rattle.words.specs.declared.Measured.the-variants.{Sized};
 ghost use Rattle.answers.specs.Said.{stepSays, runSays};
 ghost use Rattle.steps.specs.declared.Served.the-variants.{At};
 ghost use Rattle.steps.specs.Step.{serving, strays, sound, stepSized, stepOf};
 ghost use Rattle.steps.specs.Run.{runFrom, runOf};
+ghost use Rattle.steps.specs.Whole.{wholeFrom, ranFrom};
 ghost use Rattle.steps.specs.Held.{followed, held, stepOfRun};
 use answers::End;
 use answers::Ran;
@@ -29,12 +33,13 @@ pub enum Held {
     Damaged,
 }
 
-// The highest level whose op is not 0.
-pub fn find_served(t: &[u16], s: Sizes) -> Served
+// The highest level below n whose op is not 0.
+pub fn find_served(t: &[u16], s: Sizes, n: usize) -> Served
     requires { ⌜ Fits s (now t) ⌝ }
-    ensures { λ r. ⌜ r ≡ serving s (now (t .entry)) (s .levels) ⌝ }
+    requires { ⌜ n ≤ s .levels ⌝ }
+    ensures { λ r. ⌜ r ≡ serving s (now (t .entry)) n ⌝ }
 {
-    let mut i = s.levels;
+    let mut i = n;
     while 0 < i {
         i -= 1;
         let l = Level(words::narrow(i));
@@ -147,12 +152,12 @@ fn step_of_run(r: Ran) -> Stepped
     }
 }
 
-// A step is a run of one.
-fn step_sized(t: &mut [u16], s: Sizes) -> Stepped
-    requires { ⌜ Fits s (now t) ⌝ }
+// The step of a table that was measured: a run of one.
+fn step_served(t: &mut [u16], s: Sizes) -> Stepped
+    requires { ⌜ measured (now t) ≡ Sized s ⌝ }
     ensures { λ r. ⌜ stepSized s (now (t .entry)) ≡ (stepSays r, now (t .exit)) ⌝ }
 {
-    match find_served(t, s) {
+    match find_served(t, s, s.levels) {
         Served::At(l) => step_of_run(run_level(t, s, l, 1)),
         Served::Nobody => Stepped::Refused(9),
     }
@@ -163,19 +168,19 @@ pub fn step(t: &mut [u16]) -> Stepped
     ensures { λ r. ⌜ stepOf (now (t .entry)) ≡ (stepSays r, now (t .exit)) ⌝ }
 {
     match words::measure(t) {
-        Measured::Sized(s) => step_sized(t, s),
+        Measured::Sized(s) => step_served(t, s),
         Measured::Unfit => Stepped::Refused(1),
     }
 }
 
-fn run_sized(t: &mut [u16], s: Sizes, budget: u16) -> Ran
-    requires { ⌜ Fits s (now t) ⌝ }
+fn run_served(t: &mut [u16], s: Sizes, budget: u16) -> Ran
+    requires { ⌜ measured (now t) ≡ Sized s ⌝ }
     ensures { λ r. ⌜ runFrom s budget 0 (now (t .entry)) ≡ (runSays r, now (t .exit)) ⌝ }
 {
     if budget == 0 {
         return Ran::Spent(0);
     }
-    match find_served(t, s) {
+    match find_served(t, s, s.levels) {
         Served::At(l) => run_level(t, s, l, budget),
         Served::Nobody => Ran::Idle(0),
     }
@@ -186,7 +191,72 @@ pub fn run(t: &mut [u16], budget: u16) -> Ran
     ensures { λ r. ⌜ runOf budget (now (t .entry)) ≡ (runSays r, now (t .exit)) ⌝ }
 {
     match words::measure(t) {
-        Measured::Sized(s) => run_sized(t, s, budget),
+        Measured::Sized(s) => run_served(t, s, budget),
         Measured::Unfit => Ran::Refused(1),
     }
+}
+
+// A run of a table that was measured: to the first end, or on until nothing runs. Where an operation ended, nothing runs from its level
+// on. The search makes all its steps here and the calls above none, so that in each library one place calls run_level and the step table
+// stands in the machine code there, inside the loop.
+fn run_levels(t: &mut [u16], s: Sizes, budget: u16, whole: bool) -> Ran
+    requires { ⌜ measured (now t) ≡ Sized s ⌝ }
+    ensures { λ r. ⌜ ranFrom whole s budget 0 (now (t .entry)) ≡ (runSays r, now (t .exit)) ⌝ }
+{
+    let mut left = budget;
+    let mut top = s.levels;
+    while 0 < left {
+        match find_served(t, s, top) {
+            Served::At(l) => match run_level(t, s, l, left) {
+                Ran::Ended(k, e) => {
+                    left -= k;
+                    if whole {
+                        top = e.level.index();
+                    } else {
+                        return Ran::Ended(budget - left, e);
+                    }
+                }
+                Ran::Spent(k) => {
+                    return Ran::Spent(budget - left + k);
+                }
+                Ran::Idle(k) => {
+                    return Ran::Idle(budget - left + k);
+                }
+                Ran::Damaged(k) => {
+                    return Ran::Damaged(budget - left + k);
+                }
+                Ran::Refused(x) => {
+                    return Ran::Refused(x);
+                }
+            },
+            Served::Nobody => {
+                return Ran::Idle(budget - left);
+            }
+        }
+    }
+    Ran::Spent(budget)
+}
+
+// A run of a table that was measured, for the search.
+pub fn run_sized(t: &mut [u16], s: Sizes, budget: u16) -> Ran
+    requires { ⌜ measured (now t) ≡ Sized s ⌝ }
+    ensures { λ r. ⌜ runFrom s budget 0 (now (t .entry)) ≡ (runSays r, now (t .exit)) ⌝ }
+{
+    run_levels(t, s, budget, false)
+}
+
+// All steps of a table that was measured until nothing runs.
+pub fn run_out(t: &mut [u16], s: Sizes, budget: u16) -> Ran
+    requires { ⌜ measured (now t) ≡ Sized s ⌝ }
+    ensures { λ r. ⌜ wholeFrom s budget 0 (now (t .entry)) ≡ (runSays r, now (t .exit)) ⌝ }
+{
+    run_levels(t, s, budget, true)
+}
+
+// A step of a table that was measured, for the search.
+pub fn step_sized(t: &mut [u16], s: Sizes) -> Stepped
+    requires { ⌜ measured (now t) ≡ Sized s ⌝ }
+    ensures { λ r. ⌜ stepSized s (now (t .entry)) ≡ (stepSays r, now (t .exit)) ⌝ }
+{
+    step_of_run(run_sized(t, s, 1))
 }

@@ -1,7 +1,6 @@
 // A task: sizes and at most six operations, told by a schedule's text that has E and D lines only.
 ghost use mathlib.Core.Path.{_≡_};
 ghost use Prim.Native.Nat.{_+_, _≤_};
-ghost use lib.ListN.{length};
 ghost use lib.Seq.{sets};
 ghost use Rattle.heads.specs.Put.{Put};
 ghost use Rattle.text.specs.Reading.{sizesAnswer, eventAnswer, endAnswer};

@@ -1,5 +1,5 @@
 -- What the proofs of the public calls cite.
-use Prim.Native.Nat.{ℕ, _≤_, _<_, _/_}
+use Prim.Native.Nat.{ℕ, zero, suc, _≤_, _<_, _/_}
 use mathlib.Core.Path.{_≡_, refl, sym, ap, _∙_}
 use mathlib.Core.Bool.{Bool, true, false, cond, _&&_, and-eq-true-iff}
 use mathlib.Core.List.{List, [], _++_, append-nil}
@@ -9,17 +9,22 @@ use lib.Seq.{drop-length}
 use lib.Dec.{ltb}
 use borrow.Author.Tests.{lt-ltb, le-ltb, ltb-false, ne-eqb}
 use Rattle.words.specs.declared.Sizes.{Sizes}
-use Rattle.words.specs.Layout.{limits, within, words, putCounts}
+use Rattle.words.specs.declared.Frame.{Frame}
+use Rattle.words.specs.Layout.{level, limits, within, words, putCounts, frameOf}
 use Rattle.words.specs.Laws.{within-high}
 use Rattle.answers.specs.Said.{Said, refused, says}
 use Rattle.fresh.specs.Fresh.{cleared, ended, freshTable, freshOf}
+use Rattle.fresh.specs.Laws.{fresh-measured, fresh-frame}
+use Rattle.steps.specs.declared.Served.the-variants.{Nobody}
+use Rattle.steps.specs.Step.{serving, stepServed, stepSized}
 use Rattle.ways.specs.declared.Tail.{Tail}
-use Rattle.ways.specs.Schedules.{opsIn, byStep, byBegin, both, mostMoves, fresh, schedules}
-use Rattle.ways.specs.Forced.{endIn}
+use Rattle.ways.specs.Schedules.{opsIn, Tried, stepped, byStep, byBegin, both, mostMoves, fresh, schedules}
+use Rattle.ways.specs.Forced.{endIn, TableOf}
+use Rattle.ways.specs.Calls.{stepped-is}
 use Rattle.search.specs.declared.Asked.{Asked}
 use Rattle.search.specs.Walk.{sizesOf, State, tailed, listing, none, listedOf}
-use Rattle.search.specs.Laws.{listing-append, tail-is, part-length}
-use Rattle.tries.specs.Tries.{sizes, operations, texts, why, Answer, listedIn, triesOf, numberOf}
+use Rattle.search.specs.Laws.{listing-append, tail-is, step-stop, part-length}
+use Rattle.tries.specs.Tries.{sizes, operations, texts, why, Answer, listedIn, triesOf, numberOf, talliedAll, talliesOf}
 
 -- ---- the refusals
 
@@ -62,6 +67,28 @@ fresh-is s t h k =
 pub made-fresh : (s : Sizes) (t u : List ℕ) (x : Said Unit) → limits s ≡ true → length t ≡ words s → freshOf s t ≡ (x, u) → u ≡ fresh s
 made-fresh s t u x h k e = ap (λ (y : Said Unit × List ℕ). y .1) (sym e ∙ fresh-is s t h k)
 
+module _ (s : Sizes) (lim : limits s ≡ true) where
+  zeros-room : words s ≤ length (replicate {A = ℕ} (words s) 0)
+  zeros-room = omega (arith, length-replicate {A = ℕ} (words s) 0)
+
+  pub fresh-table : TableOf s (fresh s)
+  fresh-table = fresh-measured s (replicate (words s) 0) lim zeros-room
+
+  -- nothing runs
+  fresh-serves : (n : ℕ) → n ≤ s .levels → serving s (fresh s) n ≡ Nobody
+  unfolding serving
+  fresh-serves zero h = refl
+  fresh-serves (suc n) h =
+      let frame = fresh-frame s (replicate (words s) 0) lim zeros-room (level n) (omega arith) in
+      let op : frameOf s (fresh s) (level n) .op ≡ 0 = ap (λ (f : Frame). f .op) frame in
+      rw op (fresh-serves n (omega arith))
+
+  pub fresh-still : stepped (fresh s) .0 ≡ false
+  unfolding stepSized stepServed
+  fresh-still =
+      let said : stepSized s (fresh s) ≡ (refused 9, fresh s) = rw (fresh-serves (s .levels) (omega arith)) refl in
+      ap (λ (x : Tried). x .0) (stepped-is s (fresh s) fresh-table (fresh s) (refused 9) said)
+
 -- the table of the greatest sizes has 2,276 words
 pub words-fit : (s : Sizes) → limits s ≡ true → words s ≤ 2276
 unfolding limits
@@ -75,29 +102,27 @@ words-fit s h =
 
 -- ---- all of them
 
-module _ (a : Asked) (ws room : List ℕ) where
+module _ (a : Asked) (ws room ts : List ℕ) where
   pub list-none : (t path : List ℕ) (x : Tail) (out : State) → a .operations ≡ 0 → t ≡ fresh (sizesOf a) → endIn mostMoves 0 t ≡ x
-      → tailed a ws (take (a .operations) path) x (none, room) ≡ out → listedOf a ws room ≡ out
+      → tailed a ws (take (a .operations) path) x (none, (room, ts)) ≡ out → listedOf a ws room ts ≡ out
   unfolding listedOf schedules
   list-none t path x out h e f g =
-      ap (λ (k : ℕ). listing a ws [] 0 (both mostMoves (fresh (sizesOf a)) (opsIn k ws 0)) (none, room)) h
-      ∙ ap (λ (u : List ℕ). listing a ws [] 0 (both mostMoves u (opsIn 0 ws 0)) (none, room)) (sym e)
-      ∙ tail-is a ws [] mostMoves 0 t (none, room)
-      ∙ ap (λ (y : Tail). tailed a ws [] y (none, room)) f
-      ∙ ap (λ (k : ℕ). tailed a ws (take k path) x (none, room)) (sym h)
+      ap (λ (k : ℕ). listing a ws [] 0 (both mostMoves (fresh (sizesOf a)) (opsIn k ws 0)) (none, (room, ts))) h
+      ∙ ap (λ (u : List ℕ). listing a ws [] 0 (both mostMoves u (opsIn 0 ws 0)) (none, (room, ts))) (sym e)
+      ∙ tail-is a ws [] mostMoves 0 t (none, (room, ts))
+      ∙ ap (λ (y : Tail). tailed a ws [] y (none, (room, ts))) f
+      ∙ ap (λ (k : ℕ). tailed a ws (take k path) x (none, (room, ts))) (sym h)
       ∙ g
 
-  pub list-some : (t u : List ℕ) (mid out : State) → t ≡ fresh (sizesOf a) → u ≡ fresh (sizesOf a)
-      → listing a ws [] 0 (byStep mostMoves t (opsIn (a .operations) ws 0)) (none, room) ≡ mid
-      → listing a ws [] 0 (byBegin mostMoves u (opsIn (a .operations) ws 0)) mid ≡ out
-      → listedOf a ws room ≡ out
+  pub list-some : (t : List ℕ) (out : State) → 1 ≤ a .operations → limits (sizesOf a) ≡ true → t ≡ fresh (sizesOf a)
+      → listing a ws [] 0 (byBegin mostMoves t (opsIn (a .operations) ws 0)) (none, (room, ts)) ≡ out
+      → listedOf a ws room ts ≡ out
   unfolding listedOf schedules
-  list-some t u mid out e f g h =
+  list-some t out p h e g =
       let steps = byStep mostMoves (fresh (sizesOf a)) (opsIn (a .operations) ws 0) in
       let begins = byBegin mostMoves (fresh (sizesOf a)) (opsIn (a .operations) ws 0) in
-      listing-append a ws [] 0 steps begins (none, room)
-      ∙ ap (listing a ws [] 0 begins) (rw e at g)
-      ∙ (rw f at h)
+      let still = step-stop a ws [] 0 mostMoves (a .operations) 0 (fresh (sizesOf a)) (none, (room, ts)) p (fresh-still (sizesOf a) h) in
+      listing-append a ws [] 0 steps begins (none, (room, ts)) ∙ ap (listing a ws [] 0 begins) still ∙ (rw e at g)
 
 -- ---- by the first refusal
 
@@ -127,7 +152,7 @@ module _ (l q n k : ℕ) (s : Sizes) (r : ℕ) (sized : s ≡ sizes l q n) (told
     table-fits w e = omega (arith, e, words-fit s (why-zero s k (sym told ∙ accepted) .1))
 
     pub part-is : (w : ℕ) → w ≡ words s → length (take w (replicate {A = ℕ} 2276 0)) ≡ words (sizes l q n)
-    part-is w e = part-length w (table-fits w e) ∙ e ∙ ap words sized
+    part-is w e = part-length w 2276 (table-fits w e) ∙ e ∙ ap words sized
 
 module _ (l q n : ℕ) (ws : List ℕ) (s : Sizes) (r : ℕ) (sized : s ≡ sizes l q n) (told : r ≡ why s (length ws / 4)) where
   abbrev first-why : r ≡ why (sizes l q n) (length ws / 4)
@@ -149,3 +174,12 @@ module _ (l q n : ℕ) (ws : List ℕ) (s : Sizes) (r : ℕ) (sized : s ≡ size
   pub number-on : (m : ℕ) → r ≡ 0 → m ≡ length (schedules (sizes l q n) (operations ws)) → numberOf l q n ws ≡ says m
   unfolding numberOf
   number-on m h e = rw (← first-why, h, e) refl
+
+  pub tallies-refused : (ts : List ℕ) → (r ≡ 0 → ⊥) → talliesOf l q n ws ts ≡ ts
+  unfolding talliesOf
+  tallies-refused ts h = rw (← first-why, ne-eqb r 0 h) refl
+
+  pub tallies-on : (ts us : List ℕ) → r ≡ 0
+      → us ≡ talliedAll (sizes l q n) ws (length ws / 4) (schedules (sizes l q n) (operations ws)) ts → talliesOf l q n ws ts ≡ us
+  unfolding talliesOf
+  tallies-on ts us h e = rw (← first-why, h, e) refl

@@ -8,7 +8,7 @@ use native.Mathlib.Nat.{zero-add}
 use lib.ListN.{length, take, length-append}
 use lib.Seq.{sets, length-sets}
 use lib.Dec.{leb, ltb}
-use borrow.Author.Tests.{le-leb, lt-leb, leb-true, leb-false, le-ltb, ltb-true, ltb-false}
+use borrow.Author.Tests.{le-leb, lt-leb, leb-true, leb-false, ltb-true, ltb-false}
 use Rattle.heads.specs.Laws.{sets-append}
 use Rattle.answers.specs.Said.{refused, says}
 use Rattle.ways.specs.Schedules.{Move, schedules}
@@ -17,7 +17,9 @@ use Rattle.search.specs.declared.Asked.{Asked}
 use Rattle.search.specs.declared.Listed.{Listed}
 use Rattle.search.specs.declared.What.{What}
 use Rattle.search.specs.declared.What.the-variants.{Count, Tally, Measure, Write}
-use Rattle.search.specs.Walk.{sizesOf, opsOf, entryText, State, more, shut, fits, entered, emitted, listing, none, listedOf, asks}
+use Rattle.search.specs.Walk.{sizesOf, opsOf, entryText, State, more, shut, fits, noted, written, entered, emitted, listing}
+use Rattle.search.specs.Walk.{none, listedOf, asks}
+use Rattle.search.specs.Emits.{emit-bound, emit-open}
 use Rattle.search.specs.Laws.{listing-closed}
 use Rattle.tries.specs.Tries.{joined, moreThan, texts, Answer, listedIn}
 
@@ -30,16 +32,18 @@ puts Write room p x = sets room p x
 
 -- texts are measured or written
 abbrev Textual : What → Type 0
-Textual w = (text : List ℕ) (st : State)
-    → entered w text st ≡ cond (fits text st) (more (length text) (st .0), puts w (st .1) (st .0 .at) text) (shut true (st .0), st .1)
+Textual w = (a : Asked) (ws cs : List ℕ) (l : Listed) (room us : List ℕ)
+    → (fits (entryText a ws cs) l room ≡ true
+    → entered a ws cs w (l, (room, us)) ≡ (more (length (entryText a ws cs)) l, (puts w room (l .at) (entryText a ws cs), us)))
+    × (fits (entryText a ws cs) l room ≡ false → entered a ws cs w (l, (room, us)) ≡ (shut true l, (room, us)))
 
 measures : Textual Measure
-unfolding entered puts
-measures text st = refl
+unfolding entered noted puts
+measures a ws cs l room us = (λ h. rw h refl, λ h. rw h refl)
 
 writes : Textual Write
-unfolding entered puts
-writes text st = refl
+unfolding entered noted written puts
+writes a ws cs l room us = (λ h. rw h refl, λ h. rw h refl)
 
 puts-length : (w : What) (room : List ℕ) (p : ℕ) (x : List ℕ) → length (puts w room p x) ≡ length room
 unfolding puts
@@ -62,7 +66,7 @@ puts-on Tally room p x y = refl
 puts-on Measure room p x y = refl
 puts-on Write room p x y = sym (sets-append room p x y)
 
-module _ (a : Asked) (ws : List ℕ) (textual : Textual (a .what)) where
+module _ (a : Asked) (ws us : List ℕ) (textual : Textual (a .what)) where
   abbrev each : List (List Move) → List (List ℕ)
   each mss = map (λ ms. entryText a ws (counts 0 ms)) mss
 
@@ -74,30 +78,30 @@ module _ (a : Asked) (ws : List ℕ) (textual : Textual (a .what)) where
 
   -- m more are wanted
   abbrev Is : List (List ℕ) → ℕ → ℕ → ℕ → List ℕ → State
-  Is ts m c p room = (so (c + length (take m ts)) (p + length (joined (take m ts))) (moreThan m ts), put room p (joined (take m ts)))
+  Is ts m c p room = (so (c + length (take m ts)) (p + length (joined (take m ts))) (moreThan m ts), (put room p (joined (take m ts)), us))
 
-  is-none : (m c p : ℕ) (room : List ℕ) → (so c p false, room) ≡ Is [] m c p room
+  is-none : (m c p : ℕ) (room : List ℕ) → (so c p false, (room, us)) ≡ Is [] m c p room
   unfolding joined moreThan
   is-none m c p room =
       let x : c ≡ c + 0 = omega arith in
       let y : p ≡ p + 0 = omega arith in
-      ap (λ (i : ℕ). (so i p false, room)) x
-      ∙ ap (λ (i : ℕ). (so (c + 0) i false, room)) y
-      ∙ ap (λ (r : List ℕ). (so (c + 0) (p + 0) false, r)) (sym (puts-none (a .what) room p))
+      ap (λ (i : ℕ). (so i p false, (room, us))) x
+      ∙ ap (λ (i : ℕ). (so (c + 0) i false, (room, us))) y
+      ∙ ap (λ (r : List ℕ). (so (c + 0) (p + 0) false, (r, us))) (sym (puts-none (a .what) room p))
       ∙ by m
     where
-      by : (m : ℕ) → (so (c + 0) (p + 0) false, put room p []) ≡ Is [] m c p room
+      by : (m : ℕ) → (so (c + 0) (p + 0) false, (put room p [], us)) ≡ Is [] m c p room
       by zero = refl
       by (suc m) = refl
 
-  full-is : (t : List ℕ) (ts : List (List ℕ)) (c p : ℕ) (room : List ℕ) → (so c p true, room) ≡ Is (t ∷ ts) 0 c p room
+  full-is : (t : List ℕ) (ts : List (List ℕ)) (c p : ℕ) (room : List ℕ) → (so c p true, (room, us)) ≡ Is (t ∷ ts) 0 c p room
   unfolding joined moreThan
   full-is t ts c p room =
       let x : c ≡ c + 0 = omega arith in
       let y : p ≡ p + 0 = omega arith in
-      ap (λ (i : ℕ). (so i p true, room)) x
-      ∙ ap (λ (i : ℕ). (so (c + 0) i true, room)) y
-      ∙ ap (λ (r : List ℕ). (so (c + 0) (p + 0) true, r)) (sym (puts-none (a .what) room p))
+      ap (λ (i : ℕ). (so i p true, (room, us))) x
+      ∙ ap (λ (i : ℕ). (so (c + 0) i true, (room, us))) y
+      ∙ ap (λ (r : List ℕ). (so (c + 0) (p + 0) true, (r, us))) (sym (puts-none (a .what) room p))
 
   one-more : (t : List ℕ) (ts : List (List ℕ)) (m c p : ℕ) (room : List ℕ)
       → Is ts m (c + 1) (p + length t) (put room p t) ≡ Is (t ∷ ts) (suc m) c p room
@@ -108,42 +112,32 @@ module _ (a : Asked) (ws : List ℕ) (textual : Textual (a .what)) where
       let x : c + 1 + k ≡ c + suc k = omega arith in
       let l = length-append t js in
       let y : p + length t + length js ≡ p + length (t ++ js) = omega (arith, l) in
-      ap (λ (i : ℕ). (so i (p + length t + length js) (moreThan m ts), put (put room p t) (p + length t) js)) x
-      ∙ ap (λ (i : ℕ). (so (c + suc k) i (moreThan m ts), put (put room p t) (p + length t) js)) y
-      ∙ ap (λ (r : List ℕ). (so (c + suc k) (p + length (t ++ js)) (moreThan m ts), r)) (puts-on (a .what) room p t js)
-
-  emit-bound : (cs : List ℕ) (c p : ℕ) (room : List ℕ) → a .bound ≡ c + 0 → emitted a ws cs (so c p false, room) ≡ (so c p true, room)
-  unfolding emitted
-  emit-bound cs c p room e = let h : a .bound ≤ c = omega arith in rw (le-leb (a .bound) c h) refl
-
-  emit-open : (cs : List ℕ) (m c p : ℕ) (room : List ℕ) → a .bound ≡ c + suc m
-      → emitted a ws cs (so c p false, room) ≡ entered (a .what) (entryText a ws cs) (so c p false, room)
-  unfolding emitted
-  emit-open cs m c p room e = let k : c < a .bound = omega arith in rw (lt-leb (a .bound) c k) refl
+      ap (λ (i : ℕ). (so i (p + length t + length js) (moreThan m ts), (put (put room p t) (p + length t) js, us))) x
+      ∙ ap (λ (i : ℕ). (so (c + suc k) i (moreThan m ts), (put (put room p t) (p + length t) js, us))) y
+      ∙ ap (λ (r : List ℕ). (so (c + suc k) (p + length (t ++ js)) (moreThan m ts), (r, us))) (puts-on (a .what) room p t js)
 
   emit-one : (cs : List ℕ) (m c p : ℕ) (room : List ℕ) → a .bound ≡ c + suc m → p + length (entryText a ws cs) ≤ length room
-      → emitted a ws cs (so c p false, room) ≡ (so (c + 1) (p + length (entryText a ws cs)) false, put room p (entryText a ws cs))
+      → emitted a ws cs (so c p false, (room, us))
+      ≡ (so (c + 1) (p + length (entryText a ws cs)) false, (put room p (entryText a ws cs), us))
   emit-one cs m c p room e h =
-      emit-open cs m c p room e
-      ∙ textual (entryText a ws cs) (so c p false, room)
-      ∙ rw (le-leb (p + length (entryText a ws cs)) (length room) h) refl
+      emit-open a ws cs (so c p false, (room, us)) refl (omega arith)
+      ∙ textual a ws cs (so c p false) room us .0 (le-leb (p + length (entryText a ws cs)) (length room) h)
 
   emit-full : (cs : List ℕ) (m c p : ℕ) (room : List ℕ) → a .bound ≡ c + suc m → length room < p + length (entryText a ws cs)
-      → emitted a ws cs (so c p false, room) ≡ (shut true (so c p false), room)
+      → emitted a ws cs (so c p false, (room, us)) ≡ (shut true (so c p false), (room, us))
   emit-full cs m c p room e h =
-      emit-open cs m c p room e
-      ∙ textual (entryText a ws cs) (so c p false, room)
-      ∙ rw (lt-leb (p + length (entryText a ws cs)) (length room) h) refl
+      emit-open a ws cs (so c p false, (room, us)) refl (omega arith)
+      ∙ textual a ws cs (so c p false) room us .1 (lt-leb (p + length (entryText a ws cs)) (length room) h)
 
   -- the first m of them, where they fit; there are more exactly where there are more than m
   listing-is : (mss : List (List Move)) (m c p : ℕ) (room : List ℕ) → a .bound ≡ c + m
       → p + length (joined (take m (each mss))) ≤ length room
-      → listing a ws [] 0 mss (so c p false, room) ≡ Is (each mss) m c p room
+      → listing a ws [] 0 mss (so c p false, (room, us)) ≡ Is (each mss) m c p room
   unfolding listing joined
   listing-is [] m c p room e h = is-none m c p room
   listing-is (x ∷ xs) zero c p room e h =
-      ap (listing a ws [] 0 xs) (emit-bound (counts 0 x) c p room e)
-      ∙ listing-closed a ws [] 0 xs (so c p true, room) refl
+      ap (listing a ws [] 0 xs) (emit-bound a ws (counts 0 x) (so c p false) (so c p true) (room, us) refl (omega arith) refl)
+      ∙ listing-closed a ws [] 0 xs (so c p true, (room, us)) refl
       ∙ full-is (entryText a ws (counts 0 x)) (each xs) c p room
   listing-is (x ∷ xs) (suc m) c p room e h =
       let t : List ℕ = entryText a ws (counts 0 x) in
@@ -155,7 +149,7 @@ module _ (a : Asked) (ws : List ℕ) (textual : Textual (a .what)) where
 
   -- where the first m do not fit, it is full
   listing-full : (mss : List (List Move)) (m c p : ℕ) (room : List ℕ) → a .bound ≡ c + m → p ≤ length room
-      → length room < p + length (joined (take m (each mss))) → listing a ws [] 0 mss (so c p false, room) .0 .full ≡ true
+      → length room < p + length (joined (take m (each mss))) → listing a ws [] 0 mss (so c p false, (room, us)) .0 .full ≡ true
   unfolding listing joined
   listing-full [] zero c p room e q h = absurd (omega arith)
   listing-full [] (suc m) c p room e q h = absurd (omega arith)
@@ -169,8 +163,8 @@ module _ (a : Asked) (ws : List ℕ) (textual : Textual (a .what)) where
 
       by : (b : Bool) → leb (p + length t) (length room) ≡ b
           → (p + length t ≤ length (put room p t) → length (put room p t) < p + length t + length (joined (take m (each xs)))
-          → listing a ws [] 0 xs (so (c + 1) (p + length t) false, put room p t) .0 .full ≡ true)
-          → listing a ws [] 0 xs (emitted a ws (counts 0 x) (so c p false, room)) .0 .full ≡ true
+          → listing a ws [] 0 xs (so (c + 1) (p + length t) false, (put room p t, us)) .0 .full ≡ true)
+          → listing a ws [] 0 xs (emitted a ws (counts 0 x) (so c p false, (room, us))) .0 .full ≡ true
       by true z ih =
           let k = leb-true (p + length t) (length room) z in
           let l = length-append t (joined (take m (each xs))) in
@@ -180,7 +174,7 @@ module _ (a : Asked) (ws : List ℕ) (textual : Textual (a .what)) where
       by false z ih =
           let k = leb-false (p + length t) (length room) z in
           ap (λ (s : State). listing a ws [] 0 xs s .0 .full) (emit-full (counts 0 x) m c p room e k)
-          ∙ ap (λ (s : State). s .0 .full) (listing-closed a ws [] 0 xs (shut true (so c p false), room) refl)
+          ∙ ap (λ (s : State). s .0 .full) (listing-closed a ws [] 0 xs (shut true (so c p false), (room, us)) refl)
 
 -- ---- the answer
 
@@ -189,98 +183,92 @@ length-take-low zero xs = omega arith
 length-take-low (suc n) [] = omega arith
 length-take-low (suc n) (x ∷ xs) = let h = length-take-low n xs in omega (arith, h)
 
-module _ (a : Asked) (ws room : List ℕ) where
+module _ (a : Asked) (ws : List ℕ) where
   abbrev all : List (List ℕ)
   all = texts (sizesOf a) (opsOf a ws)
 
   abbrev wanted : List (List ℕ)
   wanted = take (a .bound) all
 
+  -- the room is too small for the texts that are wanted
+  abbrev pub short : List ℕ → Bool
+  short room = ltb (length room) (length (joined wanted))
+
+  pub refused-so : (room : List ℕ) → short room ≡ true → listedIn all (a .bound) room ≡ (refused 12, room)
+  unfolding listedIn
+  refused-so room h = rw h refl
+
+module _ (a : Asked) (ws room us : List ℕ) where
+  abbrev first : List (List ℕ)
+  first = wanted a ws
+
   abbrev listed : List ℕ → State
   listed out =
-      (record { count = length wanted; at = length (joined wanted); closed = moreThan (a .bound) all; full = false }, out)
+      (record { count = length first; at = length (joined first); closed = moreThan (a .bound) (all a ws); full = false }, (out, us))
 
-  list-fits : (w : What) → Textual w → length (joined wanted) ≤ length room
-      → listedOf (asks w a) ws room ≡ listed (puts w room 0 (joined wanted))
+  list-fits : (w : What) → Textual w → length (joined first) ≤ length room
+      → listedOf (asks w a) ws room us ≡ listed (puts w room 0 (joined first))
   unfolding listedOf entryText
   list-fits w textual h =
       let m : ℕ = a .bound in
-      listing-is (asks w a) ws textual (schedules (sizesOf a) (opsOf a ws)) m 0 0 room (sym (zero-add m)) (omega (arith, h))
-      ∙ ap
-      (λ (i : ℕ). (record { count = i; at = 0 + length (joined wanted); closed = moreThan m all; full = false }, puts w room 0 (joined wanted)))
-      (zero-add (length wanted))
-      ∙ ap (λ (i : ℕ). (record { count = length wanted; at = i; closed = moreThan m all; full = false }, puts w room 0 (joined wanted)))
-      (zero-add (length (joined wanted)))
+      let out : List ℕ × List ℕ = (puts w room 0 (joined first), us) in
+      listing-is (asks w a) ws us textual (schedules (sizesOf a) (opsOf a ws)) m 0 0 room (sym (zero-add m)) (omega (arith, h))
+      ∙ ap (λ (i : ℕ). (record { count = i; at = 0 + length (joined first); closed = moreThan m (all a ws); full = false }, out))
+      (zero-add (length first))
+      ∙ ap (λ (i : ℕ). (record { count = length first; at = i; closed = moreThan m (all a ws); full = false }, out))
+      (zero-add (length (joined first)))
 
-  list-full : (w : What) → Textual w → length room < length (joined wanted) → listedOf (asks w a) ws room .0 .full ≡ true
+  list-full : (w : What) → Textual w → length room < length (joined first) → listedOf (asks w a) ws room us .0 .full ≡ true
   unfolding listedOf entryText
   list-full w textual h =
       let m : ℕ = a .bound in
-      listing-full (asks w a) ws textual (schedules (sizesOf a) (opsOf a ws)) m 0 0 room (sym (zero-add m))
+      listing-full (asks w a) ws us textual (schedules (sizesOf a) (opsOf a ws)) m 0 0 room (sym (zero-add m))
       (omega arith) (omega (arith, h))
 
-  -- measuring leaves the room
+  -- measuring leaves the room and the tallies
   kept : (cs : List ℕ) (st : State) → emitted (asks Measure a) ws cs st .1 ≡ st .1
   unfolding emitted entered
-  kept cs st = by (st .0 .closed) (leb (a .bound) (st .0 .count)) (fits (entryText (asks Measure a) ws cs) st)
+  kept cs st = by (st .0 .closed) (leb (a .bound) (st .0 .count))
     where
-      by : (x y z : Bool)
-          → cond {A = State} x st (cond {A = State} y (shut (st .0 .full) (st .0), st .1)
-          (cond {A = State} z (more (length (entryText (asks Measure a) ws cs)) (st .0), st .1) (shut true (st .0), st .1))) .1
+      by : (x y : Bool)
+          → cond {A = State} x st (cond {A = State} y (shut (st .0 .full) (st .0), st .1) (entered (asks Measure a) ws cs Measure st)) .1
           ≡ st .1
-      by true y z = refl
-      by false true z = refl
-      by false false true = refl
-      by false false false = refl
+      by true y = refl
+      by false true = refl
+      by false false = refl
 
   keeps : (mss : List (List Move)) (st : State) → listing (asks Measure a) ws [] 0 mss st .1 ≡ st .1
   unfolding listing
   keeps [] st = refl
   keeps (ms ∷ mss) st = keeps mss (emitted (asks Measure a) ws (counts 0 ms) st) ∙ kept (counts 0 ms) st
 
-  measured-keeps : listedOf (asks Measure a) ws room .1 ≡ room
+  measured-keeps : listedOf (asks Measure a) ws room us .1 ≡ (room, us)
   unfolding listedOf
-  measured-keeps = keeps (schedules (sizesOf a) (opsOf a ws)) (none, room)
+  measured-keeps = keeps (schedules (sizesOf a) (opsOf a ws)) (none, (room, us))
 
-  module _ (m : Listed) (after : List ℕ) (e : listedOf (asks Measure a) ws room ≡ (m, after)) where
+  module _ (m : Listed) (after vs : List ℕ) (e : listedOf (asks Measure a) ws room us ≡ (m, (after, vs))) where
     pub unwritten : after ≡ room
-    unwritten = sym (ap (λ (st : State). st .1) e) ∙ measured-keeps
+    unwritten = ap (λ (x : List ℕ × List ℕ). x .0) (sym (ap (λ (st : State). st .1) e) ∙ measured-keeps)
 
-    pub measured-full : m .full ≡ true → listedIn all (a .bound) room ≡ (refused 12, after)
+    pub measured-short : m .full ≡ short a ws room
+    measured-short = sym (ap (λ (st : State). st .0 .full) e) ∙ by (short a ws room) refl
+      where
+        by : (b : Bool) → short a ws room ≡ b → listedOf (asks Measure a) ws room us .0 .full ≡ b
+        by true y = list-full Measure measures (ltb-true _ _ y)
+        by false y = ap (λ (st : State). st .0 .full) (list-fits Measure measures (ltb-false _ _ y))
+
+  module _ (l : Listed) (out ts : List ℕ) (h : short a ws room ≡ false) (f : listedOf (asks Write a) ws room us ≡ (l, (out, ts))) where
+    written-is : _≡_ {A = State} (l, (out, ts)) (listed (sets room 0 (joined first)))
+    unfolding puts
+    written-is = sym f ∙ list-fits Write writes (ltb-false _ _ h)
+
+    pub count-low : a .bound ≤ 4294967295 → l .count < 4294967296
+    count-low k =
+        let c : l .count ≡ length first = ap (λ (st : State). st .0 .count) written-is in
+        omega (arith, c, length-take-low (a .bound) (all a ws))
+
+    pub written-so : (b : Bool) → l .closed ≡ b → listedIn (all a ws) (a .bound) room ≡ (says (l .count, (l .at, b)), out)
     unfolding listedIn
-    measured-full h = by (ltb (length room) (length (joined wanted))) refl
-      where
-        by : (b : Bool) → ltb (length room) (length (joined wanted)) ≡ b → listedIn all (a .bound) room ≡ (refused 12, after)
-        by true y = rw y (ap (λ (r : List ℕ). (refused 12, r)) (sym unwritten))
-        by false y =
-            let full : m .full ≡ false = ap (λ (st : State). st .0 .full) (sym e ∙ list-fits Measure measures (ltb-false _ _ y)) in
-            let z : _≡_ {A = ℕ} 0 1 = cc in
-            absurd (omega arith)
-
-    pub measured-fits : m .full ≡ false → length (joined wanted) ≤ length room
-    measured-fits h = by (ltb (length room) (length (joined wanted))) refl
-      where
-        by : (b : Bool) → ltb (length room) (length (joined wanted)) ≡ b → length (joined wanted) ≤ length room
-        by true y =
-            let full : m .full ≡ true = ap (λ (st : State). st .0 .full) (sym e) ∙ list-full Measure measures (ltb-true _ _ y) in
-            let z : _≡_ {A = ℕ} 0 1 = cc in
-            absurd (omega arith)
-        by false y = ltb-false _ _ y
-
-    module _ (l : Listed) (out : List ℕ) (f : listedOf (asks Write a) ws after ≡ (l, out)) (h : m .full ≡ false) where
-      written : (l, out) ≡ listed (sets room 0 (joined wanted))
-      unfolding puts
-      written =
-          sym f ∙ ap (listedOf (asks Write a) ws) unwritten ∙ list-fits Write writes (measured-fits h)
-
-      pub count-low : a .bound ≤ 4294967295 → l .count < 4294967296
-      count-low k =
-          let c : l .count ≡ length wanted = ap (λ (st : State). st .0 .count) written in
-          omega (arith, c, length-take-low (a .bound) all)
-
-      pub written-so : (b : Bool) → l .closed ≡ b → listedIn all (a .bound) room ≡ (says (l .count, (l .at, b)), out)
-      unfolding listedIn
-      written-so b k =
-          let answer : State → Answer = λ st. (says (st .0 .count, (st .0 .at, st .0 .closed)), st .1) in
-          rw (le-ltb (length room) (length (joined wanted)) (measured-fits h))
-          (sym (ap answer written) ∙ ap (λ (x : Bool). (says (l .count, (l .at, x)), out)) k)
+    written-so b k =
+        let answer : State → Answer = λ st. (says (st .0 .count, (st .0 .at, st .0 .closed)), st .1 .0) in
+        rw h (sym (ap answer written-is) ∙ ap (λ (x : Bool). (says (l .count, (l .at, x)), out)) k)

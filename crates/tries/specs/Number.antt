@@ -1,4 +1,4 @@
--- How many schedules there are: fewer than a u64 holds, so that they can be counted without a bound.
+-- How many schedules there are: fewer than a u64 holds, so that all can be counted without a bound, and the outcomes of all.
 use Prim.Native.Nat.{ℕ, zero, suc, _+_, _*_, _≤_, _<_}
 use mathlib.Core.Path.{_≡_, refl, sym, ap, _∙_}
 use mathlib.Core.Bool.{Bool, true, false, cond}
@@ -6,17 +6,18 @@ use mathlib.Core.List.{List, [], _∷_, _++_}
 use native.Mathlib.Omega.{arith}
 use native.Mathlib.Nat.{mul-le-mul, zero-add}
 use lib.ListN.{length, length-append, length-map}
-use borrow.Author.Tests.{lt-leb}
 use Rattle.ways.specs.declared.Op.{Op}
 use Rattle.ways.specs.Schedules.{Move, step, begin, stepped, begun, idle, ending, after}
 use Rattle.ways.specs.Schedules.{byStep, both, mostMoves, fresh, schedules}
 use Rattle.entries.specs.Texts.{counts}
+use Rattle.outcomes.specs.Tallies.{tallied}
 use Rattle.search.specs.declared.Asked.{Asked}
 use Rattle.search.specs.declared.Listed.{Listed}
 use Rattle.search.specs.declared.What.{What}
-use Rattle.search.specs.declared.What.the-variants.{Count, Tally}
-use Rattle.search.specs.Emits.{ops-length}
-use Rattle.search.specs.Walk.{sizesOf, opsOf, entryText, State, more, entered, emitted, listing, none, listedOf}
+use Rattle.search.specs.declared.What.the-variants.{Count, Tally, Measure, Write}
+use Rattle.search.specs.Emits.{ops-length, emit-open}
+use Rattle.search.specs.Walk.{sizesOf, opsOf, State, more, entered, emitted, listing, none, listedOf}
+use Rattle.tries.specs.Tries.{talliedAll}
 
 -- ---- a bound: with r operations and fewer than n moves there are at most n to the power of r
 
@@ -95,47 +96,76 @@ number-low t ops h = let p = few mostMoves 6 t ops h in omega (arith, p, sixth)
 
 -- ---- counted
 
-module _ (a : Asked) (ws : List ℕ) (counts-only : (text : List ℕ) (st : State) → entered (a .what) text st ≡ (more 0 (st .0), st .1)) where
-  count-open : (cs : List ℕ) (st : State) → st .0 .closed ≡ false → st .0 .count < a .bound
-      → emitted a ws cs st ≡ entered (a .what) (entryText a ws cs) st
-  unfolding emitted
-  count-open cs st h k = rw (h, lt-leb (a .bound) (st .0 .count) k) refl
-
-  count-one : (cs : List ℕ) (st : State) → st .0 .closed ≡ false → st .0 .count < a .bound
-      → emitted a ws cs st ≡ (more 0 (st .0), st .1)
-  count-one cs st h k = count-open cs st h k ∙ counts-only (entryText a ws cs) st
-
-  count-is : (mss : List (List Move)) (st : State) → st .0 .closed ≡ false → st .0 .count + length mss ≤ a .bound
-      → listing a ws [] 0 mss st .0 .count ≡ st .0 .count + length mss
-  unfolding listing
-  count-is [] st h k = omega arith
-  count-is (ms ∷ mss) st h k =
-      let one = count-one (counts 0 ms) st h (omega (arith, k)) in
-      let ih = count-is mss (more 0 (st .0), st .1) h (omega (arith, k)) in
-      ap (λ (s : State). listing a ws [] 0 mss s .0 .count) one ∙ omega (arith, ih)
-
-  number-counted : (room out : List ℕ) (l : Listed) → length (opsOf a ws) ≤ 6 → a .bound ≡ 18446744073709551615
-      → listedOf a ws room ≡ (l, out) → l .count ≡ length (schedules (sizesOf a) (opsOf a ws))
-  unfolding listedOf schedules
-  number-counted room out l h b e =
-      let low = number-low (fresh (sizesOf a)) (opsOf a ws) h in
-      let n = count-is (both mostMoves (fresh (sizesOf a)) (opsOf a ws)) (none, room) refl (omega (arith, low, b)) in
-      sym (ap (λ (s : State). s .0 .count) e) ∙ n ∙ zero-add (length (both mostMoves (fresh (sizesOf a)) (opsOf a ws)))
-
 -- schedules are only counted, or their outcomes too
-pub data Counts : What → Type 0 where
-  counts-them : Counts Count
-  tallies-them : Counts Tally
+abbrev pub Counts : What → Type 0
+Counts Count = Unit {0}
+Counts Tally = Unit {0}
+Counts Measure = ⊥
+Counts Write = ⊥
 
 abbrev pub Counting : Asked → Type 0
 Counting a = Counts (a .what) × (a .bound ≡ 18446744073709551615)
 
-only-counts : (w : What) → Counts w → (text : List ℕ) (st : State) → entered w text st ≡ (more 0 (st .0), st .1)
-unfolding entered
-only-counts Count counts-them text st = refl
-only-counts Tally tallies-them text st = refl
+module _ (a : Asked) (ws : List ℕ) where
+  entered-counts : (cs : List ℕ) (w : What) (st : State) → Counts w → entered a ws cs w st .0 ≡ more 0 (st .0)
+  unfolding entered
+  entered-counts cs Count st h = refl
+  entered-counts cs Tally st h = refl
+  entered-counts cs Measure st h = absurd h
+  entered-counts cs Write st h = absurd h
 
-pub counted-all : (a : Asked) (ws room out : List ℕ) (l : Listed) → a .operations ≤ 6 → Counting a → listedOf a ws room ≡ (l, out)
-    → l .count ≡ length (schedules (sizesOf a) (opsOf a ws))
-counted-all a ws room out l h c e =
-    number-counted a ws (only-counts (a .what) (c .0)) room out l (omega (arith, h, ops-length (a .operations) ws 0)) (c .1) e
+  entered-tallies : (cs : List ℕ) (w : What) (st : State) → w ≡ Tally
+      → entered a ws cs w st .1 .1 ≡ tallied (sizesOf a) ws (a .operations) cs (st .1 .1)
+  unfolding entered
+  entered-tallies cs w st e = rw e refl
+
+  tally-one : (cs : List ℕ) (st : State) → a .what ≡ Tally → st .0 .closed ≡ false → st .0 .count < a .bound
+      → emitted a ws cs st .1 .1 ≡ tallied (sizesOf a) ws (a .operations) cs (st .1 .1)
+  tally-one cs st w h k = ap (λ (x : State). x .1 .1) (emit-open a ws cs st h k) ∙ entered-tallies cs (a .what) st w
+
+  module _ (counting : Counts (a .what)) where
+    count-one : (cs : List ℕ) (st : State) → st .0 .closed ≡ false → st .0 .count < a .bound
+        → (emitted a ws cs st .0 .count ≡ st .0 .count + 1) × (emitted a ws cs st .0 .closed ≡ false)
+    count-one cs st h k =
+        let one = ap (λ (x : State). x .0) (emit-open a ws cs st h k) ∙ entered-counts cs (a .what) st counting in
+        (ap (λ (l : Listed). l .count) one, ap (λ (l : Listed). l .closed) one ∙ h)
+
+    count-is : (mss : List (List Move)) (st : State) → st .0 .closed ≡ false → st .0 .count + length mss ≤ a .bound
+        → listing a ws [] 0 mss st .0 .count ≡ st .0 .count + length mss
+    unfolding listing
+    count-is [] st h k = omega arith
+    count-is (ms ∷ mss) st h k =
+        let one = count-one (counts 0 ms) st h (omega (arith, k)) in
+        let others = count-is mss (emitted a ws (counts 0 ms) st) (one .1) (omega (arith, k, one .0)) in
+        omega (arith, others, one .0)
+
+    tallies-are : (mss : List (List Move)) (st : State) → a .what ≡ Tally → st .0 .closed ≡ false → st .0 .count + length mss ≤ a .bound
+        → listing a ws [] 0 mss st .1 .1 ≡ talliedAll (sizesOf a) ws (a .operations) mss (st .1 .1)
+    unfolding listing talliedAll
+    tallies-are [] st w h k = refl
+    tallies-are (ms ∷ mss) st w h k =
+        let one = count-one (counts 0 ms) st h (omega (arith, k)) in
+        tallies-are mss (emitted a ws (counts 0 ms) st) w (one .1) (omega (arith, k, one .0))
+        ∙ ap (talliedAll (sizesOf a) ws (a .operations) mss) (tally-one (counts 0 ms) st w h (omega (arith, k)))
+
+  module _ (room ts : List ℕ) (l : Listed) (out us : List ℕ) (few-so : a .operations ≤ 6) (counting : Counting a)
+      (listed : listedOf a ws room ts ≡ (l, (out, us))) where
+    abbrev all : List (List Move)
+    all = schedules (sizesOf a) (opsOf a ws)
+
+    bounded : 0 + length all ≤ a .bound
+    unfolding schedules
+    bounded =
+        let ops = ops-length (a .operations) ws 0 in
+        omega (arith, number-low (fresh (sizesOf a)) (opsOf a ws) (omega (arith, few-so, ops)), counting .1)
+
+    pub counted-all : l .count ≡ length all
+    unfolding listedOf
+    counted-all =
+        sym (ap (λ (x : State). x .0 .count) listed)
+        ∙ count-is (counting .0) all (none, (room, ts)) refl bounded
+        ∙ zero-add (length all)
+
+    pub tallied-all : a .what ≡ Tally → us ≡ talliedAll (sizesOf a) ws (a .operations) all ts
+    unfolding listedOf
+    tallied-all w = sym (ap (λ (x : State). x .1 .1) listed) ∙ tallies-are (counting .0) all (none, (room, ts)) w refl bounded

@@ -1,4 +1,4 @@
--- What trying answers, and the room afterwards.
+-- What trying answers, and the room or the tallies afterwards.
 use Prim.Native.Nat.{ℕ, zero, suc, _/_}
 use mathlib.Core.Bool.{Bool, true, false, cond}
 use mathlib.Core.List.{List, [], _∷_, _++_, map}
@@ -9,8 +9,9 @@ use Rattle.words.specs.declared.Sizes.{Sizes}
 use Rattle.words.specs.Layout.{limits}
 use Rattle.answers.specs.Said.{Said, refused, says}
 use Rattle.ways.specs.declared.Op.{Op}
-use Rattle.ways.specs.Schedules.{opsIn, schedules}
-use Rattle.entries.specs.Texts.{scheduleText}
+use Rattle.ways.specs.Schedules.{Move, opsIn, schedules}
+use Rattle.entries.specs.Texts.{counts, scheduleText}
+use Rattle.outcomes.specs.Tallies.{tallied}
 use Rattle.tries.specs.declared.Tried.{Tried}
 use Rattle.tries.specs.declared.Tried.the-variants.{All, More, Refused}
 use Rattle.tries.specs.declared.Number.{Number}
@@ -73,3 +74,21 @@ unfoldable pub numberOf : ℕ → ℕ → ℕ → List ℕ → Said ℕ
 numberOf l q n ws =
     cond (eqb (why (sizes l q n) (length ws / 4)) 0) (says (length (schedules (sizes l q n) (operations ws))))
     (refused (why (sizes l q n) (length ws / 4)))
+
+-- ---- their outcomes
+
+-- these schedules of k operations, counted one after another
+unfoldable pub talliedAll : Sizes → List ℕ → ℕ → List (List Move) → List ℕ → List ℕ
+talliedAll s ws k [] ts = ts
+talliedAll s ws k (ms ∷ mss) ts = talliedAll s ws k mss (tallied s ws k (counts 0 ms) ts)
+
+-- every schedule is counted; tallies that are too short, and those of a refusal, stay as they were
+unfoldable pub talliesOf : ℕ → ℕ → ℕ → List ℕ → List ℕ → List ℕ
+talliesOf l q n ws ts =
+    cond (eqb (why (sizes l q n) (length ws / 4)) 0)
+    (talliedAll (sizes l q n) ws (length ws / 4) (schedules (sizes l q n) (operations ws)) ts)
+    ts
+
+-- their number, and the tallies afterwards
+abbrev pub tallyOf : ℕ → ℕ → ℕ → List ℕ → List ℕ → Said ℕ × List ℕ
+tallyOf l q n ws ts = (numberOf l q n ws, talliesOf l q n ws ts)

@@ -1,4 +1,4 @@
--- Two results that the contracts allow coincide, the room afterwards with them.
+-- Two results that the contracts allow coincide, the room or the tallies afterwards with them.
 use Prim.Native.Nat.{ℕ}
 use mathlib.Core.Path.{_≡_, refl, sym, ap, _∙_}
 use mathlib.Core.Bool.{Bool, true, false}
@@ -34,3 +34,6 @@ one-told (number.Refused x) = elim [ number.Is y ↦ λ e. cc | number.Refused y
 
 pub one-number : {x : Said ℕ} {a b : Number} → x ≡ numberSays a → x ≡ numberSays b → a ≡ b
 one-number p q = once-read numberSays one-told p q
+
+pub one-tally : {x : Said ℕ × List ℕ} {a b : Number} {t u : List ℕ} → x ≡ (numberSays a, t) → x ≡ (numberSays b, u) → (a ≡ b) × (t ≡ u)
+one-tally p q = once numberSays one-told p q

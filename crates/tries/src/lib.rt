@@ -5,8 +5,10 @@ ghost use Prim.Native.Nat.{_≤_};
 ghost use lib.ListN.{length};
 ghost use Rattle.words.specs.Layout.{limits, words};
 ghost use Rattle.ways.specs.Schedules.{fresh, schedules};
+ghost use Rattle.search.specs.declared.What.the-variants.{Tally};
 ghost use Rattle.search.specs.Walk.{sizesOf, opsOf, listedOf, asks, Listable};
-ghost use Rattle.tries.specs.Tries.{sizes, why, triedSays, triesOf, numberSays, numberOf, texts, listedIn};
+ghost use Rattle.tries.specs.Tries.{sizes, why, triedSays, triesOf, numberSays, numberOf, talliedAll, talliesOf, tallyOf, texts, listedIn};
+ghost use Rattle.tries.specs.Listed.{short};
 ghost use Rattle.tries.specs.Number.{Counts, Counting};
 use search::Asked;
 use search::Listed;
@@ -38,6 +40,16 @@ fn make_fresh(t: &mut [u16], asked: Asked)
     fresh::fresh_table(t, asked.levels, asked.queues, asked.nodes);
 }
 
+fn sizes_of(levels: u16, queues: u16, nodes: u16) -> Sizes
+    ensures { λ r. ⌜ r ≡ sizes levels queues nodes ⌝ }
+{
+    Sizes {
+        levels: words::wide(levels),
+        queues: words::wide(queues),
+        nodes: words::wide(nodes),
+    }
+}
+
 // Every schedule of the operations from a fresh table.
 fn list_all(
     t: &mut [u16],
@@ -48,7 +60,7 @@ fn list_all(
     tallies: &mut [u64],
 ) -> Listed
     requires { ⌜ Listable (length (now t)) (length (now copy)) (length (now ops)) asked ⌝ }
-    ensures { λ r. ⌜ listedOf asked (now (ops .entry)) (now (room .entry)) ≡ (r, now (room .exit)) ⌝ }
+    ensures { λ r. ⌜ listedOf asked (now (ops .entry)) (now (room .entry)) (now (tallies .entry)) ≡ (r, (now (room .exit), now (tallies .exit))) ⌝ }
 {
     let none = Listed {
         count: 0,
@@ -57,13 +69,16 @@ fn list_all(
         full: false,
     };
     let k = asked.operations;
+    let s = sizes_of(asked.levels, asked.queues, asked.nodes);
     make_fresh(t, asked);
     if k == 0 {
-        let tail = ways::steps_left(t, MOVES);
+        let tail = ways::steps_left(t, s, MOVES);
         return search::emit_tail(tail, asked, ops, [0u16; 7], none, copy, room, tallies);
     }
-    let first = search::explore_step(
+    // nothing runs yet: no schedule begins with a step
+    search::explore_begin(
         t,
+        s,
         copy,
         asked,
         ops,
@@ -73,21 +88,6 @@ fn list_all(
         0,
         [0u16; 7],
         none,
-        room,
-        tallies,
-    );
-    make_fresh(t, asked);
-    search::explore_begin(
-        t,
-        copy,
-        asked,
-        ops,
-        0,
-        k,
-        MOVES,
-        0,
-        [0u16; 7],
-        first,
         room,
         tallies,
     )
@@ -107,11 +107,17 @@ fn asking(what: What, asked: Asked) -> Asked
     }
 }
 
-// The texts in the room. They are measured first, so that nothing is written where the room is too small.
-fn list_texts(t: &mut [u16], copy: &mut [u16], asked: Asked, ops: &[u16], room: &mut [u8]) -> Tried
-    requires { ⌜ Listable (length (now t)) (length (now copy)) (length (now ops)) asked × (asked .bound ≤ 4294967295) ⌝ }
-    ensures { λ r. ⌜ listedIn (texts (sizesOf asked) (opsOf asked (now (ops .entry)))) (asked .bound) (now (room .entry)) ≡ (triedSays r, now (room .exit)) ⌝ }
+// No text has more bytes: 26 of its opening, 20 of each of six operations, 8 of each of seven S lines.
+pub const LONGEST: usize = 202;
+
+// Whether the room is too small for the texts that are wanted. Where it has LONGEST bytes for each, it is not; else they are measured.
+fn is_short(t: &mut [u16], copy: &mut [u16], asked: Asked, ops: &[u16], room: &mut [u8]) -> bool
+    requires { ⌜ Listable (length (now t)) (length (now copy)) (length (now ops)) asked ⌝ }
+    ensures { λ r. ⌜ (r ≡ short asked (now (ops .entry)) (now (room .entry))) × (now (room .exit) ≡ now (room .entry)) ⌝ }
 {
+    if asked.bound <= (room.len() / LONGEST) as u64 {
+        return false;
+    }
     let mut tallies = [0u64; 1];
     let measured = list_all(
         t,
@@ -121,25 +127,24 @@ fn list_texts(t: &mut [u16], copy: &mut [u16], asked: Asked, ops: &[u16], room: 
         room,
         &mut tallies,
     );
-    if measured.full {
+    measured.full
+}
+
+// The texts in the room; nothing is written where it is too small.
+fn list_texts(t: &mut [u16], copy: &mut [u16], asked: Asked, ops: &[u16], room: &mut [u8]) -> Tried
+    requires { ⌜ Listable (length (now t)) (length (now copy)) (length (now ops)) asked × (asked .bound ≤ 4294967295) ⌝ }
+    ensures { λ r. ⌜ listedIn (texts (sizesOf asked) (opsOf asked (now (ops .entry)))) (asked .bound) (now (room .entry)) ≡ (triedSays r, now (room .exit)) ⌝ }
+{
+    if is_short(t, copy, asked, ops, room) {
         return Tried::Refused(12);
     }
+    let mut tallies = [0u64; 1];
     let listed = list_all(t, copy, asking(What::Write, asked), ops, room, &mut tallies);
     let count = listed.count as u32;
     if listed.closed {
         return Tried::More(count, listed.at);
     }
     Tried::All(count, listed.at)
-}
-
-fn sizes_of(levels: u16, queues: u16, nodes: u16) -> Sizes
-    ensures { λ r. ⌜ r ≡ sizes levels queues nodes ⌝ }
-{
-    Sizes {
-        levels: words::wide(levels),
-        queues: words::wide(queues),
-        nodes: words::wide(nodes),
-    }
 }
 
 // The number of the first refusal of so many operations on a table of these sizes, or 0.
@@ -195,6 +200,8 @@ pub const UNBOUND: u64 = 18446744073709551615;
 fn count_all(t: &mut [u16], copy: &mut [u16], asked: Asked, ops: &[u16], tallies: &mut [u64]) -> u64
     requires { ⌜ Listable (length (now t)) (length (now copy)) (length (now ops)) asked × Counting asked ⌝ }
     ensures { λ r. ⌜ r ≡ length (schedules (sizesOf asked) (opsOf asked (now (ops .entry)))) ⌝ }
+    ensures { λ _. ⌜ (asked .what ≡ Tally → now (tallies .exit) ≡ talliedAll (sizesOf asked) (now (ops .entry)) (asked .operations)
+        (schedules (sizesOf asked) (opsOf asked (now (ops .entry)))) (now (tallies .entry))) ⌝ }
 {
     let mut room = [0u8; 1];
     let listed = list_all(t, copy, asked, ops, &mut room, tallies);
@@ -211,6 +218,7 @@ fn count_as(
 ) -> Number
     requires { ⌜ Counts what ⌝ }
     ensures { λ r. ⌜ numberOf levels queues nodes (now (ops .entry)) ≡ numberSays r ⌝ }
+    ensures { λ _. ⌜ (what ≡ Tally → talliesOf levels queues nodes (now (ops .entry)) (now (tallies .entry)) ≡ now (tallies .exit)) ⌝ }
 {
     let operations = ops.len() / 4;
     let s = sizes_of(levels, queues, nodes);
@@ -242,7 +250,7 @@ pub fn count_schedules(levels: u16, queues: u16, nodes: u16, ops: &[u16]) -> Num
     count_as(What::Count, levels, queues, nodes, ops, &mut tallies)
 }
 
-// How many schedules there are, and how many of them lead to each outcome.
+// How many schedules there are; in the tallies each of them is counted under its outcome.
 pub fn tally_schedules(
     levels: u16,
     queues: u16,
@@ -250,7 +258,7 @@ pub fn tally_schedules(
     ops: &[u16],
     tallies: &mut [u64],
 ) -> Number
-    ensures { λ r. ⌜ numberOf levels queues nodes (now (ops .entry)) ≡ numberSays r ⌝ }
+    ensures { λ r. ⌜ tallyOf levels queues nodes (now (ops .entry)) (now (tallies .entry)) ≡ (numberSays r, now (tallies .exit)) ⌝ }
 {
     count_as(What::Tally, levels, queues, nodes, ops, tallies)
 }

@@ -2,8 +2,8 @@
 use streams::Input;
 use trying::Asked;
 
-// 20,000 schedules fit: their texts have 171 bytes at most.
-const ROOM: usize = 3420000;
+// 20,000 times tries::LONGEST: so many texts are listed in it without being measured first.
+const ROOM: usize = 4040000;
 
 const LARGE_ROOM: usize = 16777216;
 

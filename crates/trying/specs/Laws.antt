@@ -5,7 +5,7 @@ use mathlib.Core.Bool.{Bool, true, false, cond}
 use mathlib.Core.List.{List, [], _∷_}
 use native.Mathlib.Omega.{arith}
 use native.Mathlib.Numerals.{add-one}
-use lib.ListN.{length, length-set, take, drop, set, getD, drop-of-length-le}
+use lib.ListN.{length, length-set, take, drop, set, getD, replicate, drop-of-length-le}
 use lib.Seq.{sets, length-sets, drop-cons}
 use lib.Dec.{ltb, eqb}
 use borrow.Author.Tests.{ltb-true, ltb-false, eq-eqb, ne-eqb}
@@ -22,8 +22,8 @@ use Rattle.outcomes.specs.declared.Written.the-variants.{Bytes, Refused}
 use Rattle.outcomes.specs.Lines.{writtenOf, putLines, countedText}
 use Rattle.tasks.specs.Tasks as task
 use Rattle.tasks.specs.Tasks.{taskReading, taskOf, allWords}
-use Rattle.tasks.specs.Laws.{Read, task-read}
-use Rattle.tries.specs.Tries.{why, sizes, operations, texts, joined, moreThan, listedIn, triesOf, numberOf}
+use Rattle.tasks.specs.Laws.{task-read}
+use Rattle.tries.specs.Tries.{why, sizes, operations, texts, joined, moreThan, listedIn, triesOf, tallyOf}
 use Rattle.trying.specs.declared.Bound.{Bound}
 use Rattle.trying.specs.declared.Bound.the-variants.{Is, Wrong}
 use Rattle.trying.specs.Bounds.{digitOn, goOn, numberFrom, boundIn}
@@ -40,7 +40,6 @@ use Rattle.trying.specs.Trying.{
   numberTold,
   countTold,
   outcomesTold,
-  Counted,
 }
 use Rattle.trying.specs.InRoom.{InRoom}
 
@@ -144,35 +143,19 @@ lines-laid room text after w e = by (ink (At 0, room) text) e
     by (At n, r) f = ap (λ (u : Written × List ℕ). (writtenSays (u .0), u .1)) f
     by (Full, r) f = ap (λ (u : Written × List ℕ). (writtenSays (u .0), u .1)) f
 
-pub count-lines : (o : Opening) (ws ts room after : List ℕ) (n : ℕ) (w : Written)
-    → numberOf (o .levels) (o .queues) (o .nodes) ws ≡ says n → putLines room (countedText n ts (o .queues)) ≡ (w, after)
-    → Counted (λ us. countTold us room o ws) (writtenSays w) after
-unfolding numberTold
-count-lines o ws ts room after n w e f = record { tallies = ts; is = rw e (lines-laid room (countedText n ts (o .queues)) after w f) }
+module _ (o : Opening) (ws ts room after : List ℕ) where
+  abbrev tally : Said ℕ × List ℕ
+  tally = tallyOf (o .levels) (o .queues) (o .nodes) ws (replicate 5122 0)
 
-pub count-refused : {said : Said (ℕ × Bool)} (o : Opening) (ws room after : List ℕ) (number : ℕ)
-    → numberOf (o .levels) (o .queues) (o .nodes) ws ≡ refused number → refusedTold number room ≡ (said, after)
-    → Counted (λ us. countTold us room o ws) said after
-unfolding numberTold
-count-refused o ws room after number e f = record { tallies = []; is = rw e f }
+  pub count-lines : (n : ℕ) (w : Written) → tally ≡ (says n, ts) → putLines room (countedText n ts (o .queues)) ≡ (w, after)
+      → countTold room o ws ≡ (writtenSays w, after)
+  unfolding numberTold
+  count-lines n w e f = ap (numberTold (o .queues) room) e ∙ lines-laid room (countedText n ts (o .queues)) after w f
 
-pub task-counted : {said : Said (ℕ × Bool)} (text ops lent room after : List ℕ) (o : Opening) (n : ℕ) → 24 ≤ length ops
-    → taskOf text ops ≡ (answer.gives o, lent) → n ≡ o .events → Counted (λ us. countTold us room o (take (4 * n) lent)) said after
-    → Counted (λ us. outcomesTold text us room) said after
-task-counted text ops lent room after o n h e f c =
-    record { tallies = c .tallies; is = task-told (countTold (c .tallies) room) text ops lent room o n _ h e f (c .is) }
-
-pub wrong-counted : {said : Said (ℕ × Bool)} (text ops lent room after : List ℕ) (line : ℕ)
-    → taskOf text ops ≡ (answer.refuses 13 (line ∷ []), lent) → laid (textLine line) room ≡ (said, after)
-    → Counted (λ us. outcomesTold text us room) said after
-wrong-counted text ops lent room after line e f =
-    record { tallies = []; is = wrong-told (countTold [] room) text ops lent room line _ e f }
-
-pub refused-counted : {said : Said (ℕ × Bool)} (text ops lent room after : List ℕ) (number : ℕ)
-    → taskOf text ops ≡ (answer.refuses number [], lent) → refusedTold number room ≡ (said, after)
-    → Counted (λ us. outcomesTold text us room) said after
-refused-counted text ops lent room after number e f =
-    record { tallies = []; is = refused-told (countTold [] room) text ops lent room number _ e f }
+  pub count-refused : {said : Said (ℕ × Bool)} (number : ℕ) → tally ≡ (refused number, ts) → refusedTold number room ≡ (said, after)
+      → countTold room o ws ≡ (said, after)
+  unfolding numberTold
+  count-refused number e f = ap (numberTold (o .queues) room) e ∙ f
 
 -- ---- the bytes are in the room
 
@@ -253,13 +236,13 @@ task-in told h text room = by (taskReading text)
     by (answer.refuses number []) = refused-in number room
     by (answer.refuses number (line ∷ values)) = laid-in (textLine line) room
 
-count-in : (ts room : List ℕ) (o : Opening) (ws : List ℕ) → InRoom (countTold ts room o ws .0) (length (countTold ts room o ws .1))
+count-in : (room : List ℕ) (o : Opening) (ws : List ℕ) → InRoom (countTold room o ws .0) (length (countTold room o ws .1))
 unfolding numberTold
-count-in ts room o ws = by (numberOf (o .levels) (o .queues) (o .nodes) ws)
+count-in room o ws = by (tallyOf (o .levels) (o .queues) (o .nodes) ws (replicate 5122 0))
   where
-    by : (x : Said ℕ) → InRoom (numberTold (o .queues) ts room x .0) (length (numberTold (o .queues) ts room x .1))
-    by (says n) = laid-in (countedText n ts (o .queues)) room
-    by (refused number) = refused-in number room
+    by : (x : Said ℕ × List ℕ) → InRoom (numberTold (o .queues) room x .0) (length (numberTold (o .queues) room x .1))
+    by (says n, ts) = laid-in (countedText n ts (o .queues)) room
+    by (refused number, ts) = refused-in number room
 
 -- the same of what was told
 pub schedules-within : {said : Said (ℕ × Bool)} {after : List ℕ} (text : List ℕ) (bound : ℕ) (room : List ℕ)
@@ -267,6 +250,6 @@ pub schedules-within : {said : Said (ℕ × Bool)} {after : List ℕ} (text : Li
 schedules-within text bound room e =
     rw e at (task-in (listTold bound room) (λ o ws. tries-in (o .levels) (o .queues) (o .nodes) ws bound room) text room)
 
-pub outcomes-within : {said : Said (ℕ × Bool)} {after : List ℕ} (text room : List ℕ)
-    → Counted (λ us. outcomesTold text us room) said after → InRoom said (length after)
-outcomes-within text room c = rw (c .is) at (task-in (countTold (c .tallies) room) (count-in (c .tallies) room) text room)
+pub outcomes-within : {said : Said (ℕ × Bool)} {after : List ℕ} (text room : List ℕ) → outcomesTold text room ≡ (said, after)
+    → InRoom said (length after)
+outcomes-within text room e = rw e at (task-in (countTold room) (count-in room) text room)

@@ -1,4 +1,4 @@
--- Two results that the contract of `write_schedules` allows coincide: the answer and the room.
+-- Two results that the contract of `write_schedules` or of `write_outcomes` allows coincide: the answer and the room.
 use Prim.Native.Nat.{ℕ}
 use mathlib.Core.Path.{_≡_, refl, sym, ap, _∙_}
 use mathlib.Core.Bool.{Bool, cond}

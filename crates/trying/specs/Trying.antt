@@ -1,9 +1,9 @@
 -- What is printed for a task's text: the texts of its schedules one after another, or their number and their outcomes; or one line that
 -- says why there are none.
 use Prim.Native.Nat.{ℕ}
-use mathlib.Core.Path.{_≡_}
 use mathlib.Core.Bool.{Bool, true, false, cond}
 use mathlib.Core.List.{List, [], _∷_}
+use lib.ListN.{replicate}
 use lib.Dec.{eqb}
 use Rattle.answers.specs.Said.{Said, refused, says}
 use Rattle.text.specs.declared.Opening.{Opening}
@@ -15,7 +15,7 @@ use Rattle.loglines.specs.Ink.{ink}
 use Rattle.loglines.specs.Lines.{textLine, refusalLine}
 use Rattle.tasks.specs.Tasks.{taskReading, allWords}
 use Rattle.outcomes.specs.Lines.{countedText}
-use Rattle.tries.specs.Tries.{triesOf, numberOf}
+use Rattle.tries.specs.Tries.{triesOf, tallyOf}
 use Rattle.trying.specs.declared.Answer.{Answer}
 use Rattle.trying.specs.declared.Answer.the-variants.{Whole, First, NoRoom}
 
@@ -62,19 +62,14 @@ listTold bound room o ws = triedTold (triesOf (o .levels) (o .queues) (o .nodes)
 abbrev pub schedulesTold : List ℕ → ℕ → List ℕ → Told
 schedulesTold text bound room = taskTold (listTold bound room) text room
 
--- ---- their number and their outcomes, by tallies that count these
+-- ---- their number and their outcomes, counted from tallies of zeros
 
-unfoldable pub numberTold : ℕ → List ℕ → List ℕ → Said ℕ → Told
-numberTold queues ts room (says n) = laid (countedText n ts queues) room
-numberTold queues ts room (refused number) = refusedTold number room
+unfoldable pub numberTold : ℕ → List ℕ → Said ℕ × List ℕ → Told
+numberTold queues room (says n, ts) = laid (countedText n ts queues) room
+numberTold queues room (refused number, ts) = refusedTold number room
 
-abbrev pub countTold : List ℕ → List ℕ → Opening → List ℕ → Told
-countTold ts room o ws = numberTold (o .queues) ts room (numberOf (o .levels) (o .queues) (o .nodes) ws)
+abbrev pub countTold : List ℕ → Opening → List ℕ → Told
+countTold room o ws = numberTold (o .queues) room (tallyOf (o .levels) (o .queues) (o .nodes) ws (replicate 5122 0))
 
-abbrev pub outcomesTold : List ℕ → List ℕ → List ℕ → Told
-outcomesTold text ts room = taskTold (countTold ts room) text room
-
--- which tallies these are is left open
-pub record Counted (told : List ℕ → Told) (said : Said (ℕ × Bool)) (after : List ℕ) : Type 0 where
-  pub tallies : List ℕ
-  pub is : told tallies ≡ (said, after)
+abbrev pub outcomesTold : List ℕ → List ℕ → Told
+outcomesTold text room = taskTold (countTold room) text room

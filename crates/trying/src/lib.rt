@@ -10,7 +10,6 @@ ghost use Rattle.trying.specs.Trying.{
   schedulesTold,
   countTold,
   outcomesTold,
-  Counted,
 };
 ghost use Rattle.trying.specs.Bounds.{digitOn, boundIn};
 use loglines::Pen;
@@ -159,7 +158,7 @@ pub fn write_schedules(text: &[u8], bound: u32, room: &mut [u8]) -> Answer
 }
 
 fn count_schedules(o: Opening, ops: &[u16], room: &mut [u8]) -> Answer
-    ensures { λ r. ⌜ Counted (λ ts. countTold ts (now (room .entry)) o (now (ops .entry))) (answerSays r) (now (room .exit)) ⌝ }
+    ensures { λ r. ⌜ countTold (now (room .entry)) o (now (ops .entry)) ≡ (answerSays r, now (room .exit)) ⌝ }
 {
     let mut tallies = [0u64; outcomes::TALLIES];
     match tries::tally_schedules(o.levels, o.queues, o.nodes, ops, &mut tallies) {
@@ -173,7 +172,7 @@ fn count_schedules(o: Opening, ops: &[u16], room: &mut [u8]) -> Answer
 
 // How many schedules the task has, and how many lead to each outcome; or the line that says why there are none.
 pub fn write_outcomes(text: &[u8], room: &mut [u8]) -> Answer
-    ensures { λ r. ⌜ Counted (λ ts. outcomesTold (now (text .entry)) ts (now (room .entry))) (answerSays r) (now (room .exit)) ⌝ }
+    ensures { λ r. ⌜ outcomesTold (now (text .entry)) (now (room .entry)) ≡ (answerSays r, now (room .exit)) ⌝ }
 {
     let mut ops = [0u16; 24];
     match tasks::read_task(text, &mut ops) {

@@ -1,5 +1,5 @@
 -- What the calls give: the proofs of the functions that make one call cite these.
-use Prim.Native.Nat.{ℕ, _-_}
+use Prim.Native.Nat.{ℕ}
 use mathlib.Core.Path.{_≡_, refl, sym, ap, _∙_}
 use mathlib.Core.Bool.{Bool, true, false, cond, _&&_}
 use mathlib.Core.List.{List}
@@ -10,29 +10,50 @@ use Rattle.words.specs.declared.Queue.{Queue}
 use Rattle.words.specs.declared.Node.{Node}
 use Rattle.words.specs.declared.Sizes.{Sizes}
 use Rattle.words.specs.declared.Measured.the-variants.{Sized, Unfit}
-use Rattle.words.specs.Layout.{measured}
-use Rattle.answers.specs.declared.Stepped.{Stepped}
+use Rattle.words.specs.Layout.{measured, frameOf}
 use Rattle.answers.specs.declared.Done.{Done}
-use Rattle.answers.specs.Said.{Said, refused, says, stepSays, doneSays}
+use Rattle.answers.specs.Said.{Said, refused, says, Step, doneSays}
 use Rattle.begins.specs.Begin.{unless, enqueueWhy, enqueueSized, enqueueMeasured, enqueueOf}
 use Rattle.begins.specs.Begin.{dequeueWhy, dequeueSized, dequeueMeasured, dequeueOf}
-use Rattle.steps.specs.Step.{stepOf}
+use Rattle.begins.specs.Keeping.{enqueue-kept, dequeue-kept, enqueue-same, dequeue-same}
+use Rattle.steps.specs.Step.{stepSized}
+use Rattle.steps.specs.Singly.{step-is}
+use Rattle.steps.specs.After.{Steady}
 use Rattle.ways.specs.declared.Op.{Op}
 use Rattle.ways.specs.Schedules.{accepts, tried, Tried, begun, stepped}
 
-pub stepped-is : (t u : List ℕ) (a : Stepped) (b : Bool) → stepOf t ≡ (stepSays a, u) → b ≡ accepts (stepSays a) → stepped t ≡ (b, u)
-unfolding stepped
-stepped-is t u a b e f = rw (e, f) refl
+module _ (s : Sizes) (t : List ℕ) (m : measured t ≡ Sized s) where
+  pub stepped-is : (u : List ℕ) (x : Said Step) → stepSized s t ≡ (x, u) → stepped t ≡ (accepts x, u)
+  unfolding stepped
+  stepped-is u x e = rw (step-is s t m, e) refl
 
-pub begun-enqueue : (o : Op) (t u : List ℕ) (a : Done) (b : Bool) → o .op ≡ 1
-    → enqueueOf t (o .level) (o .queue) (o .node) ≡ (doneSays a, u) → b ≡ accepts (doneSays a) → begun o t ≡ (b, u)
-unfolding begun
-begun-enqueue o t u a b k e f = rw (k, e, f) refl
+  enqueue-is : (l : Level) (q : Queue) (n : Node) → enqueueOf t l q n ≡ enqueueSized s t l q n
+  unfolding enqueueOf enqueueMeasured
+  enqueue-is l q n = rw m refl
 
-pub begun-dequeue : (o : Op) (t u : List ℕ) (a : Done) (b : Bool) → o .op ≡ 2 → o .node .0 ≡ 0
-    → dequeueOf t (o .level) (o .queue) ≡ (doneSays a, u) → b ≡ accepts (doneSays a) → begun o t ≡ (b, u)
+  dequeue-is : (l : Level) (q : Queue) → dequeueOf t l q ≡ dequeueSized s t l q
+  unfolding dequeueOf dequeueMeasured
+  dequeue-is l q = rw m refl
+
+-- ---- an operation begins
+
+-- the table keeps its sizes
+abbrev pub Begun : Sizes → List ℕ → Op → Bool → List ℕ → Type 0
+Begun s t o b u = (begun o t ≡ (b, u)) × (measured u ≡ Sized s)
+
+pub begun-enqueue : (s : Sizes) (o : Op) (t u : List ℕ) (a : Done) (b : Bool) → measured t ≡ Sized s → o .op ≡ 1
+    → enqueueSized s t (o .level) (o .queue) (o .node) ≡ (doneSays a, u) → b ≡ accepts (doneSays a) → Begun s t o b u
 unfolding begun
-begun-dequeue o t u a b k z e f = rw (k, z, e, f) refl
+begun-enqueue s o t u a b m k e f =
+    let kept = enqueue-kept s t (o .level) (o .queue) (o .node) m in
+    (rw (k, enqueue-is s t m (o .level) (o .queue) (o .node), e, f) refl, rw e at kept)
+
+pub begun-dequeue : (s : Sizes) (o : Op) (t u : List ℕ) (a : Done) (b : Bool) → measured t ≡ Sized s → o .op ≡ 2 → o .node .0 ≡ 0
+    → dequeueSized s t (o .level) (o .queue) ≡ (doneSays a, u) → b ≡ accepts (doneSays a) → Begun s t o b u
+unfolding begun
+begun-dequeue s o t u a b m k z e f =
+    let kept = dequeue-kept s t (o .level) (o .queue) m in
+    (rw (k, z, dequeue-is s t m (o .level) (o .queue), e, f) refl, rw e at kept)
 
 pub begun-odd : (o : Op) (t : List ℕ) → o .op ≡ 2 → (o .node .0 ≡ 0 → ⊥) → begun o t ≡ (false, t)
 unfolding begun
@@ -41,6 +62,17 @@ begun-odd o t k z = rw (k, ne-eqb _ 0 z) refl
 pub begun-none : (o : Op) (t : List ℕ) → (o .op ≡ 1 → ⊥) → (o .op ≡ 2 → ⊥) → begun o t ≡ (false, t)
 unfolding begun
 begun-none o t k z = rw (ne-eqb _ 1 k, ne-eqb _ 2 z) refl
+
+pub begun-unfit : (o : Op) (t : List ℕ) → measured t ≡ Unfit → begun o t ≡ (false, t)
+unfolding begun enqueueOf enqueueMeasured dequeueOf dequeueMeasured
+begun-unfit o t m = rw m (by (eqb (o .op) 1) (eqb (o .op) 2 && eqb (o .node .0) 0))
+  where
+    by : (a b : Bool) → cond {A = Tried} a (false, t) (cond {A = Tried} b (false, t) (false, t)) ≡ (false, t)
+    by true b = refl
+    by false true = refl
+    by false false = refl
+
+-- ---- whether it would begin
 
 -- a begin is accepted where there is no refusal
 unless-accepts : (why : ℕ) (t new : List ℕ) → accepts (unless why t new .0) ≡ eqb why 0
@@ -53,21 +85,13 @@ unless-accepts why t new = by (eqb why 0)
 
 enqueue-accepts : (s : Sizes) (t : List ℕ) (l : Level) (q : Queue) (n : Node) → measured t ≡ Sized s
     → accepts (enqueueOf t l q n .0) ≡ eqb (enqueueWhy s t l q n) 0
-unfolding enqueueOf enqueueMeasured enqueueSized
-enqueue-accepts s t l q n m = rw m (unless-accepts (enqueueWhy s t l q n) t _)
+unfolding enqueueSized
+enqueue-accepts s t l q n m = rw (enqueue-is s t m l q n) (unless-accepts (enqueueWhy s t l q n) t _)
 
 dequeue-accepts : (s : Sizes) (t : List ℕ) (l : Level) (q : Queue) → measured t ≡ Sized s
     → accepts (dequeueOf t l q .0) ≡ eqb (dequeueWhy s t l q) 0
-unfolding dequeueOf dequeueMeasured dequeueSized
-dequeue-accepts s t l q m = rw m (unless-accepts (dequeueWhy s t l q) t _)
-
-enqueue-unfit : (t : List ℕ) (l : Level) (q : Queue) (n : Node) → measured t ≡ Unfit → accepts (enqueueOf t l q n .0) ≡ false
-unfolding enqueueOf enqueueMeasured
-enqueue-unfit t l q n m = rw m refl
-
-dequeue-unfit : (t : List ℕ) (l : Level) (q : Queue) → measured t ≡ Unfit → accepts (dequeueOf t l q .0) ≡ false
-unfolding dequeueOf dequeueMeasured
-dequeue-unfit t l q m = rw m refl
+unfolding dequeueSized
+dequeue-accepts s t l q m = rw (dequeue-is s t m l q) (unless-accepts (dequeueWhy s t l q) t _)
 
 may-1 : (o : Op) (t : List ℕ) → o .op ≡ 1 → begun o t .0 ≡ accepts (enqueueOf t (o .level) (o .queue) (o .node) .0)
 unfolding begun
@@ -91,12 +115,31 @@ may-odd o t k z = sym (ap (λ (x : Tried). x .0) (begun-odd o t k z))
 pub may-none : (o : Op) (t : List ℕ) → (o .op ≡ 1 → ⊥) → (o .op ≡ 2 → ⊥) → false ≡ begun o t .0
 may-none o t k z = sym (ap (λ (x : Tried). x .0) (begun-none o t k z))
 
-pub may-unfit : (o : Op) (t : List ℕ) → measured t ≡ Unfit → false ≡ begun o t .0
+-- an operation that would begin still would after a step that goes on, and one that would not still would not
+pub begun-steady : (o : Op) (s : Sizes) (t u : List ℕ) → measured t ≡ Sized s → measured u ≡ Sized s → Steady s t u
+    → begun o u .0 ≡ begun o t .0
 unfolding begun
-may-unfit o t m = by (eqb (o .op) 1) (eqb (o .op) 2 && eqb (o .node .0) 0)
+begun-steady o s t u m n h = by (eqb (o .op) 1) (eqb (o .op) 2 && eqb (o .node .0) 0)
   where
-    by : (a b : Bool) → false ≡ (cond {A = Tried} a (tried (enqueueOf t (o .level) (o .queue) (o .node)))
-        (cond {A = Tried} b (tried (dequeueOf t (o .level) (o .queue))) (false, t)) .0)
-    by true b = sym (enqueue-unfit t (o .level) (o .queue) (o .node) m)
-    by false true = sym (dequeue-unfit t (o .level) (o .queue) m)
+    l : Level
+    l = o .level
+
+    q : Queue
+    q = o .queue
+
+    ops : (k : Level) → frameOf s u k .op ≡ frameOf s t k .op
+    ops k = ap (λ (x : ℕ × ℕ). x .0) (h .kinds k)
+
+    queues : (k : Level) → frameOf s u k .queue .0 ≡ frameOf s t k .queue .0
+    queues k = ap (λ (x : ℕ × ℕ). x .1) (h .kinds k)
+
+    by : (a b : Bool)
+        → cond {A = Tried} a (tried (enqueueOf u l q (o .node))) (cond {A = Tried} b (tried (dequeueOf u l q)) (false, u)) .0
+        ≡ cond {A = Tried} a (tried (enqueueOf t l q (o .node))) (cond {A = Tried} b (tried (dequeueOf t l q)) (false, t)) .0
+    by true b =
+        let same = enqueue-same s t u ops l q (o .node) (h .uses) in
+        enqueue-accepts s u l q (o .node) n ∙ ap (λ (w : ℕ). eqb w 0) same ∙ sym (enqueue-accepts s t l q (o .node) m)
+    by false true =
+        let same = dequeue-same s t u ops l q queues in
+        dequeue-accepts s u l q n ∙ ap (λ (w : ℕ). eqb w 0) same ∙ sym (dequeue-accepts s t l q m)
     by false false = refl

@@ -1,10 +1,11 @@
 // Operations, moves and what a schedule is: taking a step or the next begin, and the ways on which nothing is to be chosen.
 ghost use mathlib.Core.Path.{_≡_};
-ghost use Prim.Native.Nat.{_+_, _*_, _≤_, _<_};
+ghost use mathlib.Core.Bool.{true};
+ghost use Prim.Native.Nat.{_+_, _-_, _*_, _≤_, _<_};
 ghost use lib.ListN.{length};
-ghost use Rattle.answers.specs.Said.{doneSays, stepSays};
-ghost use Rattle.ways.specs.Schedules.{accepts, opIn, stepped, begun};
-ghost use Rattle.ways.specs.Forced.{stretched, endIn, lastIn};
+ghost use Rattle.answers.specs.Said.{doneSays};
+ghost use Rattle.ways.specs.Schedules.{accepts, opIn, begun};
+ghost use Rattle.ways.specs.Forced.{stretched, goneOn, endIn, lastIn, TableOf, Open};
 use answers::Done;
 use answers::Ran;
 use answers::Stepped;
@@ -12,6 +13,7 @@ use words::Level;
 use words::Measured;
 use words::Node;
 use words::Queue;
+use words::Sizes;
 
 // An operation: op 1 is an enqueue, op 2 with node 0 a dequeue; any other is never accepted.
 pub struct Op {
@@ -40,23 +42,6 @@ pub fn op_in(ops: &[u16], i: usize) -> Op
     }
 }
 
-fn is_taken(a: Stepped) -> bool
-    ensures { λ r. ⌜ r ≡ accepts (stepSays a) ⌝ }
-{
-    match a {
-        Stepped::GoingOn => true,
-        Stepped::Ended(_) => true,
-        Stepped::Refused(_) => false,
-    }
-}
-
-// Takes a step, if anything runs.
-pub fn take_step(t: &mut [u16]) -> bool
-    ensures { λ r. ⌜ stepped (now (t .entry)) ≡ (r, now (t .exit)) ⌝ }
-{
-    is_taken(steps::step(t))
-}
-
 fn is_done(a: Done) -> bool
     ensures { λ r. ⌜ r ≡ accepts (doneSays a) ⌝ }
 {
@@ -66,86 +51,110 @@ fn is_done(a: Done) -> bool
     }
 }
 
-// Begins the operation, if it would be accepted.
-pub fn take_begin(t: &mut [u16], o: Op) -> bool
-    ensures { λ r. ⌜ begun o (now (t .entry)) ≡ (r, now (t .exit)) ⌝ }
+// Begins the operation on a table that was measured, if it would be accepted.
+pub fn begin_sized(t: &mut [u16], s: Sizes, o: Op) -> bool
+    requires { ⌜ TableOf s (now t) ⌝ }
+    ensures { λ r. ⌜ (begun o (now (t .entry)) ≡ (r, now (t .exit))) × TableOf s (now (t .exit)) ⌝ }
 {
     if o.op == 1 {
-        return is_done(begins::begin_enqueue(t, o.level, o.queue, o.node));
+        return is_done(begins::enqueue_sized(t, s, o.level, o.queue, o.node));
     }
     if o.op == 2 {
         if o.node.0 == 0 {
-            return is_done(begins::begin_dequeue(t, o.level, o.queue));
+            return is_done(begins::dequeue_sized(t, s, o.level, o.queue));
         }
     }
     false
 }
 
-// Whether the operation would be accepted.
-fn may_begin(t: &[u16], o: Op) -> bool
-    ensures { λ r. ⌜ r ≡ begun o (now (t .entry)) .0 ⌝ }
+// Begins the operation, if it would be accepted.
+pub fn take_begin(t: &mut [u16], o: Op) -> bool
+    ensures { λ r. ⌜ begun o (now (t .entry)) ≡ (r, now (t .exit)) ⌝ }
 {
     match words::measure(t) {
-        Measured::Sized(s) => {
-            if o.op == 1 {
-                return begins::enqueue_why(t, s, o.level, o.queue, o.node) == 0;
-            }
-            if o.op == 2 {
-                if o.node.0 == 0 {
-                    return begins::dequeue_why(t, s, o.level, o.queue) == 0;
-                }
-            }
-            false
-        }
+        Measured::Sized(s) => begin_sized(t, s, o),
         Measured::Unfit => false,
     }
 }
 
-// Takes steps while the operation is refused, so that nothing is to be chosen. Answers what is left of the moves, 0 where nothing
-// runs before it is accepted.
-pub fn stretch(t: &mut [u16], o: Op, left: u16) -> u16
+// Whether the operation would be accepted.
+fn may_begin(t: &[u16], s: Sizes, o: Op) -> bool
+    requires { ⌜ TableOf s (now t) ⌝ }
+    ensures { λ r. ⌜ r ≡ begun o (now (t .entry)) .0 ⌝ }
+{
+    if o.op == 1 {
+        return begins::enqueue_why(t, s, o.level, o.queue, o.node) == 0;
+    }
+    if o.op == 2 {
+        if o.node.0 == 0 {
+            return begins::dequeue_why(t, s, o.level, o.queue) == 0;
+        }
+    }
+    false
+}
+
+// Takes steps while the operation is refused, so that nothing is to be chosen: it stays refused until an operation ends. Answers what is
+// left of the moves, 0 where nothing runs before it is accepted.
+pub fn stretch(t: &mut [u16], s: Sizes, o: Op, left: u16) -> u16
+    requires { ⌜ TableOf s (now t) ⌝ }
     ensures { λ r. ⌜ stretched o left (now (t .entry)) ≡ (r, now (t .exit)) ⌝ }
-    ensures { λ r. ⌜ r ≤ left ⌝ }
+    ensures { λ r. ⌜ Open o s left r (now (t .exit)) ⌝ }
 {
     let mut rest = left;
     while 0 < rest {
-        if may_begin(t, o) {
+        if may_begin(t, s, o) {
             return rest;
         }
-        if take_step(t) {
-            rest -= 1;
-        } else {
-            return 0;
+        match steps::run_sized(t, s, rest) {
+            Ran::Ended(k, _) => {
+                rest -= k;
+            }
+            Ran::Idle(_) => {
+                return 0;
+            }
+            Ran::Spent(_) => {
+                return 0;
+            }
+            Ran::Damaged(_) => {
+                return 0;
+            }
+            Ran::Refused(_) => {
+                return 0;
+            }
         }
     }
     0
 }
 
-// No operation remains: the steps until nothing runs, by runs.
-pub fn steps_left(t: &mut [u16], left: u16) -> Tail
+// Takes a step, where the operation is accepted before it, and then steps while it is refused. Answers what is left of the moves, 0 where
+// no step can be taken or nothing runs before it is accepted again.
+pub fn go_on(t: &mut [u16], s: Sizes, o: Op, left: u16) -> u16
+    requires { ⌜ TableOf s (now t) × (begun o (now t) .0 ≡ true) ⌝ }
+    ensures { λ r. ⌜ goneOn o left (now (t .entry)) ≡ (r, now (t .exit)) ⌝ }
+    ensures { λ r. ⌜ Open o s (left - 1) r (now (t .exit)) ⌝ }
+{
+    if left == 0 {
+        return 0;
+    }
+    match steps::step_sized(t, s) {
+        Stepped::GoingOn => left - 1,
+        Stepped::Ended(_) => stretch(t, s, o, left - 1),
+        Stepped::Refused(_) => 0,
+    }
+}
+
+// No operation remains: the steps until nothing runs.
+pub fn steps_left(t: &mut [u16], s: Sizes, left: u16) -> Tail
+    requires { ⌜ TableOf s (now t) ⌝ }
     ensures { λ r. ⌜ endIn left 0 (now (t .entry)) ≡ r ⌝ }
 {
-    let mut rest = left;
-    while 0 < rest {
-        match steps::run(t, rest) {
-            Ran::Ended(k, _) => {
-                rest -= k;
-            }
-            Ran::Idle(k) => {
-                return Tail::Ends(left - rest + k);
-            }
-            Ran::Spent(_) => {
-                return Tail::Cut;
-            }
-            Ran::Damaged(_) => {
-                return Tail::Cut;
-            }
-            Ran::Refused(_) => {
-                return Tail::Cut;
-            }
-        }
+    match steps::run_out(t, s, left) {
+        Ran::Idle(k) => Tail::Ends(k),
+        Ran::Ended(_, _) => Tail::Cut,
+        Ran::Spent(_) => Tail::Cut,
+        Ran::Damaged(_) => Tail::Cut,
+        Ran::Refused(_) => Tail::Cut,
     }
-    Tail::Cut
 }
 
 // The words of one table to another of the same length.
@@ -161,16 +170,16 @@ pub fn copy_words(from: &[u16], to: &mut [u16])
 }
 
 // The last operation begins on a copy of the table: the steps that follow it.
-pub fn try_last(t: &[u16], copy: &mut [u16], o: Op, left: u16) -> Tail
-    requires { ⌜ length (now copy) ≡ length (now t) ⌝ }
+pub fn try_last(t: &[u16], s: Sizes, copy: &mut [u16], o: Op, left: u16) -> Tail
+    requires { ⌜ (length (now copy) ≡ length (now t)) × TableOf s (now t) ⌝ }
     ensures { λ r. ⌜ lastIn o left (now (t .entry)) ≡ r ⌝ }
 {
     if left == 0 {
         return Tail::Cut;
     }
     copy_words(t, copy);
-    if take_begin(copy, o) {
-        steps_left(copy, left - 1)
+    if begin_sized(copy, s, o) {
+        steps_left(copy, s, left - 1)
     } else {
         Tail::Cut
     }

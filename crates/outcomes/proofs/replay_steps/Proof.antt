@@ -1,96 +1,62 @@
-use native.Mathlib.Omega.{arith}
-use mathlib.Core.Path.{_≡_, refl, _∙_}
-use lib.ListN.{length}
-use Rattle.steps.specs.Singly.{ended-within}
-use Rattle.play.specs.Steps.{ranPlayed}
-use Rattle.outcomes.specs.Outcomes.{into, replaySteps}
-use Rattle.outcomes.specs.OutcomesLaws.{steps-ended, steps-stopped, steps-none}
+use Rattle.outcomes.specs.OutcomesLaws.{steps-unfit}
+use Rattle.words.specs.Laws.{told}
 use borrow.Author.Needs.{needs}
 use Rattle.outcomes.proofs.replay_steps.Statement.{statement}
 use Rattle.outcomes.proofs.replay_steps.Tie as tie
+use Rattle.outcomes.proofs.replay_steps.Reads as reads
+use Rattle.outcomes.proofs.replay_steps.Lts as lts
+use Rattle.outcomes.proofs.replay_sized.Reads as replay-sized-reads
+use Rattle.words.proofs.measure.Reads as measure-reads
 
-abbrev Inv-loop : tie.InvT-loop
-Inv-loop t₀ count notes₀ n at₀ left₀ t notes at left = (length t ≡ length t₀) × (length notes ≡ length notes₀)
-    × (into (n, notes₀) (replaySteps count t₀) ≡ into (at, notes) (replaySteps left t))
+-- src/lib.rt:159:11
+measure-requires : tie.Need-measure-requires
+measure-requires c κs = search needs
 
-abbrev μ-loop : tie.MeasureT-loop
-μ-loop t₀ count notes₀ n at₀ left₀ t notes at left = left
+-- src/lib.rt:160:25
+enum-known-s : tie.Need-enum-known-s
+enum-known-s c = search needs
 
-loop-holds : tie.Need-loop-holds Inv-loop μ-loop
-loop-holds c = (refl, refl, refl)
+-- src/lib.rt:160:31
+replay-sized-requires : tie.Need-replay-sized-requires
+replay-sized-requires c κs =
+    let measure-says = c .before .before .before .before .before .measure .ensures in
+    let s-known-1 = c .before .before .before .s .given .1 in
+    told measure-says s-known-1
 
-sub-left : tie.Need-sub-left Inv-loop μ-loop
-sub-left c =
-    let c8 = c .before .before .before .before .before .before .before .before in
-    let run = c8 .before .run .ensures in
-    let k-is = c .before .before .before .before .before .k .given .1 in
-    omega (arith, ended-within _ _ _ _ _ (rw k-is at run))
+-- src/lib.rt:161:28
+enum-told : tie.Need-enum-told
+enum-told c = search needs
 
-loop-less : tie.Need-loop-less Inv-loop μ-loop
-loop-less c =
-    let c8 = c .before .before .before .before .before .before .before .before in
-    let run = c8 .before .run .ensures in
-    let k-is = c .before .before .before .before .before .k .given .1 in
-    omega (arith, ended-within _ _ _ _ _ (rw k-is at run))
+-- src/lib.rt:156:1
+same-length : tie.Need-same-length
+same-length c = search needs
 
-loop-again : tie.Need-loop-again Inv-loop μ-loop
-loop-again c =
-    let c8 = c .before .before .before .before .before .before .before .before in
-    let inv = c8 .before .before .before .before .loop .inv .2 in
-    let loop-left = c8 .before .before .before .before .loop .left in
-    let loop-test-taken = c8 .before .before .before .loop-test .taken in
-    let run = c8 .before .run .ensures in
-    let k-is = c .before .before .before .before .before .k .given .1 in
-    let note-end = c .before .before .note-end .ensures in
-    (search needs, search needs, inv ∙ steps-ended _ loop-left _ _ _ _ _ loop-test-taken (rw k-is at run) note-end)
+-- src/lib.rt:156:1
+same-length-2 : tie.Need-same-length-2
+same-length-2 c = search needs
 
-returns : tie.Need-returns Inv-loop μ-loop
-unfolding ranPlayed
-returns c =
-    let inv = c .before .before .before .before .before .before .before .loop .inv .2 in
-    let loop-left = c .before .before .before .before .before .before .before .loop .left in
-    let loop-test-taken = c .before .before .before .before .before .before .loop-test .taken in
-    let run = c .before .before .before .before .run .ensures in
-    let enum-told-is = c .enum-told .given .1 in
-    inv ∙ steps-stopped _ loop-left _ _ _ loop-test-taken (rw enum-told-is at run) refl
+-- src/lib.rt:156:1
+returns : tie.Need-returns
+returns c = search needs
 
-returns-2 : tie.Need-returns-2 Inv-loop μ-loop
-unfolding ranPlayed
-returns-2 c =
-    let inv = c .before .before .before .before .before .before .before .loop .inv .2 in
-    let loop-left = c .before .before .before .before .before .before .before .loop .left in
-    let loop-test-taken = c .before .before .before .before .before .before .loop-test .taken in
-    let run = c .before .before .before .before .run .ensures in
-    let enum-told2-is = c .enum-told2 .given .1 in
-    inv ∙ steps-stopped _ loop-left _ _ _ loop-test-taken (rw enum-told2-is at run) refl
+-- src/lib.rt:156:1
+same-length-3 : tie.Need-same-length-3
+same-length-3 c = search needs
 
-returns-3 : tie.Need-returns-3 Inv-loop μ-loop
-unfolding ranPlayed
-returns-3 c =
-    let inv = c .before .before .before .before .before .before .before .loop .inv .2 in
-    let loop-left = c .before .before .before .before .before .before .before .loop .left in
-    let loop-test-taken = c .before .before .before .before .before .before .loop-test .taken in
-    let run = c .before .before .before .before .run .ensures in
-    let enum-told3-is = c .enum-told3 .given .1 in
-    inv ∙ steps-stopped _ loop-left _ _ _ loop-test-taken (rw enum-told3-is at run) refl
-
-returns-4 : tie.Need-returns-4 Inv-loop μ-loop
-unfolding ranPlayed
-returns-4 c =
-    let inv = c .before .before .before .before .before .before .before .loop .inv .2 in
-    let loop-left = c .before .before .before .before .before .before .before .loop .left in
-    let loop-test-taken = c .before .before .before .before .before .before .loop-test .taken in
-    let run = c .before .before .before .before .run .ensures in
-    let enum-told4-is = c .enum-told4 .given .1 in
-    inv ∙ steps-stopped _ loop-left _ _ _ loop-test-taken (rw enum-told4-is at run) refl
-
-returns-5 : tie.Need-returns-5 Inv-loop μ-loop
-returns-5 c = (c .before .loop .inv .2) ∙ steps-none _ (c .before .loop .left) _ (c .loop-test .left)
+-- src/lib.rt:156:1
+returns-2 : tie.Need-returns-2
+returns-2 c = steps-unfit _ _ _ (told (c .before .before .measure .ensures) (c .enum-told .given .1))
 
 pub replay-steps-spec : {M : Type 1} → statement M
 replay-steps-spec =
     tie.close
-    (tie.spec Inv-loop μ-loop loop-holds (λ c κs. search needs) (λ c. search needs) (λ c κs. search needs) sub-left loop-less
-    loop-again (λ c. search needs) (λ c. search needs) (λ c. search needs) returns (λ c. search needs) (λ c. search needs)
-    (λ c. search needs) returns-2 (λ c. search needs) (λ c. search needs) (λ c. search needs) returns-3 (λ c. search needs)
-    (λ c. search needs) (λ c. search needs) returns-4 (λ c. search needs) (λ c. search needs) returns-5)
+    (tie.spec
+    measure-requires
+    enum-known-s
+    replay-sized-requires
+    enum-told
+    same-length
+    same-length-2
+    returns
+    same-length-3
+    returns-2)

@@ -1,4 +1,5 @@
 use native.Mathlib.Omega.{arith}
+use Rattle.outcomes.specs.TalliesLaws.{tallied-short}
 use borrow.Author.Needs.{needs}
 use Rattle.outcomes.proofs.tally.Statement.{statement}
 use Rattle.outcomes.proofs.tally.Tie as tie
@@ -10,7 +11,7 @@ returns-2 : tie.Need-returns-2
 returns-2 c = λ f. absurd (omega (arith, (c .if2 .taken), f .whole))
 
 returns-3 : tie.Need-returns-3
-returns-3 c = λ f. absurd (omega (arith, (c .if3 .taken), f .room))
+returns-3 c = λ f. tallied-short _ _ _ _ _ (c .if3 .taken)
 
 returns-4 : tie.Need-returns-4
 returns-4 c = λ f. (c .before .before .before .before .tally-fitting .ensures) (f .sized) (f .table)

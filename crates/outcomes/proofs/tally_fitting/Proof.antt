@@ -15,7 +15,7 @@ returns c =
     let note-outcome = c8 .before .note-outcome .ensures in
     let key-of = c .before .before .before .key-of .ensures in
     let count = c .before .before .count .ensures in
-    λ l h. count ∙ tallied-is _ _ _ _ _ _ _ _ _ note-outcome key-of table-words l h
+    λ l h. count ∙ tallied-is _ _ _ _ _ _ _ _ _ (search needs) note-outcome key-of table-words l h
 
 pub tally-fitting-spec : {M : Type 1} → statement M
 tally-fitting-spec =

@@ -1,4 +1,4 @@
-use Rattle.search.specs.Emits.{emit-closed, emit-bound, emit-on, counted-so, tallied-so}
+use Rattle.search.specs.Emits.{emit-closed, emit-bound, counted-so, tallied-so, measured-so, written-so}
 use borrow.Author.Needs.{needs}
 use Rattle.search.proofs.emit.Statement.{statement}
 use Rattle.search.proofs.emit.Tie as tie
@@ -64,7 +64,7 @@ returns-3 c =
     let if1-no = c .before .before .before .before .before .before .if1 .left in
     let if2-no = c .before .before .before .if2 .left in
     let enum-told-known-1 = c .before .enum-told .given .1 in
-    counted-so _ _ _ _ _ _ if1-no if2-no enum-told-known-1 (c .one-more .ensures)
+    counted-so _ _ _ _ _ _ _ if1-no if2-no enum-told-known-1 (c .one-more .ensures)
 
 -- src/lib.rt:152:1
 same-length : tie.Need-same-length
@@ -81,7 +81,10 @@ returns-4 c =
     let if1-no = c10 .before .before .before .if1 .left in
     let if2-no = c10 .if2 .left in
     let enum-told2-known-1 = c .before .before .before .before .before .before .before .before .enum-told2 .given .1 in
-    tallied-so _ _ _ _ _ _ if1-no if2-no enum-told2-known-1 (c .one-more2 .ensures)
+    let pre = c10 .before .before .before .before .before .before .before .before .pre in
+    let tally-says = c .before .before .before .before .before .tally .ensures
+    (record { sized = pre .1 .0; table = pre .1 .1; few = pre .0 .0; whole = pre .0 .1 }) in
+    tallied-so _ _ _ _ _ _ _ if1-no if2-no _ enum-told2-known-1 (c .one-more2 .ensures) tally-says
 
 -- src/lib.rt:152:1
 same-length-3 : tie.Need-same-length-3
@@ -93,7 +96,7 @@ returns-5 c =
     let if1-no = c .before .before .before .before .before .before .before .if1 .left in
     let if2-no = c .before .before .before .before .if2 .left in
     let enum-told3-known-1 = c .before .before .enum-told3 .given .1 in
-    emit-on _ _ _ _ _ _ if1-no if2-no enum-told3-known-1 (c .measure-entry .ensures)
+    measured-so _ _ _ _ _ _ _ if1-no if2-no enum-told3-known-1 (c .measure-entry .ensures)
 
 -- src/lib.rt:152:1
 same-length-4 : tie.Need-same-length-4
@@ -106,7 +109,7 @@ returns-6 c =
     let if2-no = c .before .before .before .before .before .before .if2 .left in
     let enum-told4-known-1 = c .before .before .before .before .enum-told4 .given .1 in
     let write-entry-says = c .before .before .write-entry .ensures in
-    emit-on _ _ _ _ _ _ if1-no if2-no enum-told4-known-1 write-entry-says
+    written-so _ _ _ _ _ _ _ if1-no if2-no _ enum-told4-known-1 (write-entry-says .0) (write-entry-says .1)
 
 pub emit-spec : {M : Type 1} → statement M
 emit-spec =

@@ -52,8 +52,8 @@ returns c =
     let events-size-says-1 = c .before .before .before .before .before .before .events-size .ensures .1 in
     let has-room-says-0 = c .before .before .has-room .ensures .0 in
     let if1-yes = c .before .if1 .taken in
-    measured-fits _ _ _ _ _ _ (bytes-are _ _ _ _ _ opening-of-says events-size-says-0 _ _ opening-length-says-0
-    events-size-says-1) has-room-says-0 if1-yes (c .one-more .ensures)
+    measured-fits _ _ _ _ _ (bytes-are _ _ _ _ _ opening-of-says events-size-says-0 _ _ opening-length-says-0
+    events-size-says-1) has-room-says-0 _ if1-yes (c .one-more .ensures)
 
 -- src/lib.rt:123:1
 returns-2 : tie.Need-returns-2
@@ -64,8 +64,8 @@ returns-2 c =
     let events-size-says-1 = c .before .before .before .before .before .before .events-size .ensures .1 in
     let has-room-says-0 = c .before .before .has-room .ensures .0 in
     let if1-no = c .before .if1 .left in
-    measured-full _ _ _ _ _ _ (bytes-are _ _ _ _ _ opening-of-says events-size-says-0 _ _ opening-length-says-0
-    events-size-says-1) has-room-says-0 if1-no (c .close .ensures)
+    measured-full _ _ _ _ _ (bytes-are _ _ _ _ _ opening-of-says events-size-says-0 _ _ opening-length-says-0
+    events-size-says-1) has-room-says-0 _ if1-no (c .close .ensures)
 
 pub measure-entry-spec : {M : Type 1} → statement M
 measure-entry-spec =

@@ -1,7 +1,7 @@
 use native.Mathlib.Omega.{arith}
 use mathlib.Core.Path.{ap}
 use lib.ListN.{length}
-use Rattle.search.specs.Emits.{text-is, bytes-are, written-fits, written-full}
+use Rattle.search.specs.Emits.{text-is, bytes-are, measured-fits, measured-full, written-fits, written-full}
 use borrow.Author.Needs.{needs}
 use Rattle.search.proofs.write_entry.Statement.{statement}
 use Rattle.search.proofs.write_entry.Tie as tie
@@ -89,9 +89,12 @@ returns c =
     let arg-ops-now = c10 .before .before .before .args .ops .now in
     let arg-path = c10 .before .before .before .args .path in
     let write-text-says = c .before .before .write-text .ensures in
-    written-fits _ _ _ _ _ _ (bytes-are _ _ _ _ _ opening-of-says events-size-says-0 _ _ opening-length-says-0
-    events-size-says-1) has-room-says-0 _ _ _ if1-yes one-more-says (text-is arg-asked arg-ops-now arg-path _ _
-    opening-of-says events-size-says-0) write-text-says
+    let bytes = bytes-are arg-asked arg-ops-now arg-path _ _ opening-of-says events-size-says-0 _ _ opening-length-says-0
+    events-size-says-1 in
+    let text = text-is arg-asked arg-ops-now arg-path _ _ opening-of-says events-size-says-0 in (
+      measured-fits _ _ _ _ _ bytes has-room-says-0 _ if1-yes one-more-says,
+      written-fits _ _ _ _ _ bytes has-room-says-0 _ _ _ if1-yes text write-text-says,
+    )
 
 -- src/lib.rt:137:1
 returns-2 : tie.Need-returns-2
@@ -102,8 +105,8 @@ returns-2 c =
     let events-size-says-1 = c .before .before .before .before .before .before .events-size .ensures .1 in
     let has-room-says-0 = c .before .before .has-room .ensures .0 in
     let if1-no = c .before .if1 .left in
-    written-full _ _ _ _ _ _ (bytes-are _ _ _ _ _ opening-of-says events-size-says-0 _ _ opening-length-says-0
-    events-size-says-1) has-room-says-0 if1-no (c .close .ensures)
+    let bytes = bytes-are _ _ _ _ _ opening-of-says events-size-says-0 _ _ opening-length-says-0 events-size-says-1 in
+    (measured-full _ _ _ _ _ bytes has-room-says-0 _ if1-no (c .close .ensures), written-full _ _ _ _ _ bytes has-room-says-0 if1-no)
 
 pub write-entry-spec : {M : Type 1} → statement M
 write-entry-spec =

@@ -9,10 +9,10 @@ use Rattle.steps.proofs.find_served.Statement.{statement}
 use Rattle.steps.proofs.find_served.Tie as tie
 
 abbrev Inv-loop : tie.InvT-loop
-Inv-loop t s i₀ i = (i ≤ s .levels) × (serving s t (s .levels) ≡ serving s t i)
+Inv-loop t s n i₀ i = (i ≤ s .levels) × (serving s t n ≡ serving s t i)
 
 abbrev μ-loop : tie.MeasureT-loop
-μ-loop t s i₀ i = i
+μ-loop t s n i₀ i = i
 
 loop-holds : tie.Need-loop-holds Inv-loop μ-loop
 loop-holds c = (search needs, refl)

@@ -1,5 +1,4 @@
-use native.Mathlib.Omega.{arith}
-use Rattle.tries.specs.Number.{counted-all}
+use Rattle.tries.specs.Number.{counted-all, tallied-all}
 use borrow.Author.Needs.{needs}
 use Rattle.tries.proofs.count_all.Statement.{statement}
 use Rattle.tries.proofs.count_all.Tie as tie
@@ -34,7 +33,8 @@ returns c =
     let pre-0 = c10 .before .before .before .before .before .before .pre .0 in
     let pre-1 = c10 .before .before .before .before .before .before .pre .1 in
     let list-all-says = c .before .before .before .before .before .before .before .list-all .ensures in
-    counted-all _ _ _ _ _ (omega (arith, pre-0)) pre-1 list-all-says
+    let few = pre-0 .3 .0 in
+    (counted-all _ _ _ _ _ _ _ few pre-1 list-all-says, tallied-all _ _ _ _ _ _ _ few pre-1 list-all-says)
 
 pub count-all-spec : {M : Type 1} → statement M
 count-all-spec =

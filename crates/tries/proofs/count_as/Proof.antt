@@ -1,7 +1,7 @@
 use native.Mathlib.Omega.{arith}
 use mathlib.Core.Path.{refl, sym}
 use Rattle.search.specs.Laws.{part-length}
-use Rattle.tries.specs.Answers.{limits-so, few-so, table-fits, part-is, number-refused, number-on}
+use Rattle.tries.specs.Answers.{limits-so, few-so, table-fits, part-is, number-refused, number-on, tallies-refused, tallies-on}
 use borrow.Author.Needs.{needs}
 use Rattle.tries.proofs.count_as.Statement.{statement}
 use Rattle.tries.proofs.count_as.Tie as tie
@@ -22,7 +22,13 @@ refusal-of-requires c κs = search needs
 
 -- src/lib.rt:212:9
 returns : tie.Need-returns
-returns c = number-refused _ _ _ _ _ _ (c .before .before .sizes-of .ensures) (c .before .refusal-of .ensures) (c .if1 .taken)
+returns c =
+    let sizes-of-says = c .before .before .sizes-of .ensures in
+    let refusal-of-says = c .before .refusal-of .ensures in
+    let if1-yes = c .if1 .taken in (
+      number-refused _ _ _ _ _ _ sizes-of-says refusal-of-says if1-yes,
+      λ w. tallies-refused _ _ _ _ _ _ sizes-of-says refusal-of-says _ if1-yes,
+    )
 
 -- src/lib.rt:222:9
 words-of-requires : tie.Need-words-of-requires
@@ -43,7 +49,7 @@ slice-aggregate-t c =
     let refusal-of-says = c .before .before .before .refusal-of .ensures in
     let if1-no = c .before .before .if1 .left in
     let words-of-says = c .before .words-of .ensures in
-    sym (part-length _ (table-fits _ _ _ _ _ _ sizes-of-says refusal-of-says if1-no _ words-of-says))
+    sym (part-length _ 2276 (table-fits _ _ _ _ _ _ sizes-of-says refusal-of-says if1-no _ words-of-says))
 
 -- src/lib.rt:226:16
 array-borrow-prefix-spare : tie.Need-array-borrow-prefix-spare
@@ -61,7 +67,7 @@ slice-aggregate-copy c =
     let refusal-of-says = c .before .before .before .before .refusal-of .ensures in
     let if1-no = c .before .before .before .if1 .left in
     let words-of-says = c .before .before .words-of .ensures in
-    sym (part-length _ (table-fits _ _ _ _ _ _ sizes-of-says refusal-of-says if1-no _ words-of-says))
+    sym (part-length _ 2276 (table-fits _ _ _ _ _ _ sizes-of-says refusal-of-says if1-no _ words-of-says))
 
 -- src/lib.rt:227:16
 count-all-requires : tie.Need-count-all-requires
@@ -92,8 +98,10 @@ returns-2 c =
     let sizes-of-says = c10 .before .sizes-of .ensures in
     let refusal-of-says = c10 .refusal-of .ensures in
     let if1-no = c .before .before .before .before .before .before .before .before .before .if1 .left in
-    let count-all-says = c .before .before .before .before .count-all .ensures in
-    number-on _ _ _ _ _ _ sizes-of-says refusal-of-says _ if1-no count-all-says
+    let count-all-says = c .before .before .before .before .count-all .ensures in (
+      number-on _ _ _ _ _ _ sizes-of-says refusal-of-says _ if1-no (count-all-says .0),
+      λ w. tallies-on _ _ _ _ _ _ sizes-of-says refusal-of-says _ _ if1-no (count-all-says .1 w),
+    )
 
 pub count-as-spec : {M : Type 1} → statement M
 count-as-spec =

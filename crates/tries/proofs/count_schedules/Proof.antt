@@ -1,4 +1,3 @@
-use Rattle.tries.specs.Number.{counts-them}
 use borrow.Author.Needs.{needs}
 use Rattle.tries.proofs.count_schedules.Statement.{statement}
 use Rattle.tries.proofs.count_schedules.Tie as tie
@@ -12,7 +11,7 @@ slice-aggregate-count-as c = search needs
 
 -- src/lib.rt:235:5
 count-as-requires : tie.Need-count-as-requires
-count-as-requires c κs = counts-them
+count-as-requires c κs = tt
 
 -- src/lib.rt:231:1
 returns : tie.Need-returns

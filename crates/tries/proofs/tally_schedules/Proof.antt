@@ -1,4 +1,4 @@
-use Rattle.tries.specs.Number.{tallies-them}
+use mathlib.Core.Path.{refl}
 use borrow.Author.Needs.{needs}
 use Rattle.tries.proofs.tally_schedules.Statement.{statement}
 use Rattle.tries.proofs.tally_schedules.Tie as tie
@@ -8,7 +8,7 @@ use Rattle.tries.proofs.count_as.Reads as count-as-reads
 
 -- src/lib.rt:242:5
 count-as-requires : tie.Need-count-as-requires
-count-as-requires c κs = tallies-them
+count-as-requires c κs = tt
 
 -- src/lib.rt:239:1
 same-length : tie.Need-same-length
@@ -16,7 +16,7 @@ same-length c = search needs
 
 -- src/lib.rt:239:1
 returns : tie.Need-returns
-returns c = search needs
+returns c = let count-as-says = c .before .before .count-as .ensures in rw (count-as-says .0, count-as-says .1 refl) refl
 
 pub tally-schedules-spec : {M : Type 1} → statement M
 tally-schedules-spec = tie.close (tie.spec count-as-requires same-length returns)

@@ -43,7 +43,7 @@ slice-aggregate-t c =
     let refusal-of-says = c .before .before .before .refusal-of .ensures in
     let if1-no = c .before .before .if1 .left in
     let words-of-says = c .before .words-of .ensures in
-    sym (part-length _ (table-fits _ _ _ _ _ _ sizes-of-says refusal-of-says if1-no _ words-of-says))
+    sym (part-length _ 2276 (table-fits _ _ _ _ _ _ sizes-of-says refusal-of-says if1-no _ words-of-says))
 
 -- src/lib.rt:187:16
 array-borrow-prefix-spare : tie.Need-array-borrow-prefix-spare
@@ -61,7 +61,7 @@ slice-aggregate-copy c =
     let refusal-of-says = c .before .before .before .before .refusal-of .ensures in
     let if1-no = c .before .before .before .if1 .left in
     let words-of-says = c .before .before .words-of .ensures in
-    sym (part-length _ (table-fits _ _ _ _ _ _ sizes-of-says refusal-of-says if1-no _ words-of-says))
+    sym (part-length _ 2276 (table-fits _ _ _ _ _ _ sizes-of-says refusal-of-says if1-no _ words-of-says))
 
 -- src/lib.rt:188:5
 list-texts-requires : tie.Need-list-texts-requires

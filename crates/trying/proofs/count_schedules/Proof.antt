@@ -1,4 +1,3 @@
-use mathlib.Core.Path.{_≡_, sym, _∙_}
 use Rattle.trying.specs.Laws.{count-lines, count-refused}
 use borrow.Author.Needs.{needs}
 use Rattle.trying.proofs.count_schedules.Statement.{statement}
@@ -30,7 +29,7 @@ returns-3 c =
     let number-is = c .before .before .before .before .before .number .given .1 in
     let tally-schedules = rw number-is at (c8 .tally-schedules .ensures) in
     let o = c8 .before .before .before .before .args .o in
-    count-refused o _ _ _ _ tally-schedules (c .before .before .tell-refused .ensures)
+    count-refused o _ _ _ _ _ tally-schedules (c .before .before .tell-refused .ensures)
 
 pub count-schedules-spec : {M : Type 1} → statement M
 count-schedules-spec =

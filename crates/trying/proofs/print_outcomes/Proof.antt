@@ -1,4 +1,4 @@
-use mathlib.Core.Path.{_≡_, sym}
+use mathlib.Core.Path.{sym}
 use lib.Seq.{length-take-le}
 use Rattle.trying.specs.Laws.{outcomes-within}
 use borrow.Author.Needs.{needs}

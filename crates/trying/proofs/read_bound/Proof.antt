@@ -1,5 +1,5 @@
-use Prim.Native.Nat.{_+_, _-_}
-use mathlib.Core.Path.{_≡_, refl, sym, _∙_}
+use Prim.Native.Nat.{_-_}
+use mathlib.Core.Path.{_≡_, sym, _∙_}
 use lib.ListN.{length, drop}
 use Rattle.trying.specs.Bounds.{numberFrom, boundIn}
 use Rattle.trying.specs.Laws.{bound-none, bound-some, number-more, number-all}

@@ -1,8 +1,9 @@
 use native.Mathlib.Omega.{arith}
-use mathlib.Core.Path.{_≡_, sym}
+use mathlib.Core.Path.{sym}
 use lib.Seq.{length-take-le}
 use Rattle.tasks.specs.Tasks.{taskSays}
-use Rattle.trying.specs.Laws.{task-fits, task-counted, wrong-counted, refused-counted}
+use Rattle.trying.specs.Trying.{countTold}
+use Rattle.trying.specs.Laws.{task-fits, task-told, wrong-told, refused-told}
 use borrow.Author.Needs.{needs}
 use Rattle.trying.proofs.write_outcomes.Statement.{statement}
 use Rattle.trying.proofs.write_outcomes.Tie as tie
@@ -25,21 +26,21 @@ returns c =
     let told = c .before .before .before .before .before .before .before .o .given .1 in
     let read-task = rw told at (c .before .before .before .before .before .before .before .before .before .read-task .ensures) in
     let wide = c .before .before .before .before .before .wide .ensures in
-    task-counted _ _ _ _ _ _ _ (omega arith) read-task wide (c .before .before .count-schedules .ensures)
+    task-told (countTold _) _ _ _ _ _ _ _ (omega arith) read-task wide (c .before .before .count-schedules .ensures)
 
 returns-2 : tie.Need-returns-2
 unfolding taskSays
 returns-2 c =
     let told = c .before .before .before .before .before .line .given .1 in
     let read-task = rw told at (c .before .before .before .before .before .before .before .read-task .ensures) in
-    wrong-counted _ _ _ _ _ _ read-task (c .before .before .tell-wrong .ensures)
+    wrong-told (countTold _) _ _ _ _ _ _ read-task (c .before .before .tell-wrong .ensures)
 
 returns-3 : tie.Need-returns-3
 unfolding taskSays
 returns-3 c =
     let told = c .before .before .before .before .before .number .given .1 in
     let read-task = rw told at (c .before .before .before .before .before .before .before .read-task .ensures) in
-    refused-counted _ _ _ _ _ _ read-task (c .before .before .tell-refused .ensures)
+    refused-told (countTold _) _ _ _ _ _ _ read-task (c .before .before .tell-refused .ensures)
 
 pub write-outcomes-spec : {M : Type 1} → statement M
 write-outcomes-spec =

@@ -1,73 +1,57 @@
-use Rattle.ways.specs.Calls.{begun-enqueue, begun-dequeue, begun-odd, begun-none}
+use Rattle.ways.specs.Calls.{begun-unfit}
+use Rattle.words.specs.Laws.{told}
 use borrow.Author.Needs.{needs}
 use Rattle.ways.proofs.take_begin.Statement.{statement}
 use Rattle.ways.proofs.take_begin.Tie as tie
 use Rattle.ways.proofs.take_begin.Reads as reads
 use Rattle.ways.proofs.take_begin.Lts as lts
-use Rattle.begins.proofs.begin_dequeue.Reads as begin-dequeue-reads
-use Rattle.begins.proofs.begin_enqueue.Reads as begin-enqueue-reads
-use Rattle.ways.proofs.is_done.Reads as is-done-reads
+use Rattle.ways.proofs.begin_sized.Reads as begin-sized-reads
+use Rattle.words.proofs.measure.Reads as measure-reads
 
--- src/lib.rt:93:24
-begin-enqueue-requires : tie.Need-begin-enqueue-requires
-begin-enqueue-requires c κs = search needs
+-- src/lib.rt:76:11
+measure-requires : tie.Need-measure-requires
+measure-requires c κs = search needs
 
--- src/lib.rt:93:9
-is-done-requires : tie.Need-is-done-requires
-is-done-requires c κs = search needs
+-- src/lib.rt:77:25
+enum-known-s : tie.Need-enum-known-s
+enum-known-s c = search needs
 
--- src/lib.rt:93:9
+-- src/lib.rt:77:31
+begin-sized-requires : tie.Need-begin-sized-requires
+begin-sized-requires c κs =
+    let measure-says = c .before .before .before .before .measure .ensures in
+    let s-known-1 = c .before .before .s .given .1 in
+    told measure-says s-known-1
+
+-- src/lib.rt:78:28
+enum-told : tie.Need-enum-told
+enum-told c = search needs
+
+-- src/lib.rt:73:1
 same-length : tie.Need-same-length
 same-length c = search needs
 
--- src/lib.rt:93:9
+-- src/lib.rt:73:1
 returns : tie.Need-returns
-returns c =
-    let begin-enqueue-result = c .before .before .before .begin-enqueue .result in
-    let if1-yes = c .before .before .before .before .before .if1 .taken in
-    let begin-enqueue-says = c .before .before .before .begin-enqueue .ensures in
-    begun-enqueue _ _ _ begin-enqueue-result _ if1-yes begin-enqueue-says (c .is-done .ensures)
+returns c = search needs
 
--- src/lib.rt:97:28
-begin-dequeue-requires : tie.Need-begin-dequeue-requires
-begin-dequeue-requires c κs = search needs
-
--- src/lib.rt:97:13
-is-done-requires-2 : tie.Need-is-done-requires-2
-is-done-requires-2 c κs = search needs
-
--- src/lib.rt:97:13
+-- src/lib.rt:73:1
 same-length-2 : tie.Need-same-length-2
 same-length-2 c = search needs
 
--- src/lib.rt:97:13
+-- src/lib.rt:73:1
 returns-2 : tie.Need-returns-2
-returns-2 c =
-    let begin-dequeue-result = c .before .before .before .begin-dequeue .result in
-    let if2-yes = c .before .before .before .before .before .before .before .if2 .taken in
-    let if3-yes = c .before .before .before .before .before .if3 .taken in
-    let begin-dequeue-says = c .before .before .before .begin-dequeue .ensures in
-    begun-dequeue _ _ _ begin-dequeue-result _ if2-yes if3-yes begin-dequeue-says (c .is-done2 .ensures)
-
--- src/lib.rt:89:1
-returns-3 : tie.Need-returns-3
-returns-3 c = begun-odd _ _ (c .before .before .if2 .taken) (c .if3 .left)
-
--- src/lib.rt:89:1
-returns-4 : tie.Need-returns-4
-returns-4 c = begun-none _ _ (c .before .before .if1 .left) (c .if2 .left)
+returns-2 c = begun-unfit _ _ (told (c .before .before .measure .ensures) (c .enum-told .given .1))
 
 pub take-begin-spec : {M : Type 1} → statement M
 take-begin-spec =
     tie.close
     (tie.spec
-    begin-enqueue-requires
-    is-done-requires
+    measure-requires
+    enum-known-s
+    begin-sized-requires
+    enum-told
     same-length
     returns
-    begin-dequeue-requires
-    is-done-requires-2
     same-length-2
-    returns-2
-    returns-3
-    returns-4)
+    returns-2)
