@@ -131,7 +131,8 @@ fn emit(
     tallies: &mut [u64],
 ) -> Listed
     requires { ⌜ Given (length (now ops)) asked × Roomy (length (now copy)) asked ⌝ }
-    ensures { λ r. ⌜ emitted asked (now (ops .entry)) (take (asked .operations + 1) path) (listed, (now (room .entry), now (tallies .entry))) ≡ (r, (now (room .exit), now (tallies .exit))) ⌝ }
+    ensures { λ r. ⌜ emitted asked (now (ops .entry)) (take (asked .operations + 1) path) (listed, (now (room .entry), now (tallies .entry)))
+        ≡ (r, (now (room .exit), now (tallies .exit))) ⌝ }
 {
     if listed.closed {
         return listed;
@@ -172,7 +173,8 @@ pub fn emit_tail(
     tallies: &mut [u64],
 ) -> Listed
     requires { ⌜ Given (length (now ops)) asked × Roomy (length (now copy)) asked ⌝ }
-    ensures { λ r. ⌜ tailed asked (now (ops .entry)) (take (asked .operations) path) tail (listed, (now (room .entry), now (tallies .entry))) ≡ (r, (now (room .exit), now (tallies .exit))) ⌝ }
+    ensures { λ r. ⌜ tailed asked (now (ops .entry)) (take (asked .operations) path) tail (listed, (now (room .entry), now (tallies .entry)))
+        ≡ (r, (now (room .exit), now (tallies .exit))) ⌝ }
 {
     match tail {
         Tail::Ends(m) => {
@@ -205,7 +207,10 @@ pub fn explore_step(
 ) -> Listed
     requires { ⌜ Exploring (length (now t)) (length (now copy)) (length (now ops)) asked i rest left n ⌝ }
     requires { ⌜ TableOf s (now t) × (s ≡ sizesOf asked) × (begun (opIn (now ops) i) (now t) .0 ≡ true) ⌝ }
-    ensures { λ r. ⌜ listing asked (now (ops .entry)) (take i path) n (byStep left (now (t .entry)) (opsIn rest (now (ops .entry)) i)) (listed, (now (room .entry), now (tallies .entry))) ≡ (r, (now (room .exit), now (tallies .exit))) ⌝ }
+    ensures { λ r. ⌜ listing asked (now (ops .entry)) (take i path) n
+        (byStep left (now (t .entry)) (opsIn rest (now (ops .entry)) i))
+        (listed, (now (room .entry), now (tallies .entry)))
+        ≡ (r, (now (room .exit), now (tallies .exit))) ⌝ }
 {
     if listed.closed {
         return listed;
@@ -287,7 +292,10 @@ fn explore_saved(
 ) -> Listed
     requires { ⌜ Exploring (length (now t)) (length (now copy)) (length (now ops)) asked i rest left n ⌝ }
     requires { ⌜ TableOf s (now t) × (s ≡ sizesOf asked) × (begun (opIn (now ops) i) (now t) .0 ≡ true) ⌝ }
-    ensures { λ r. ⌜ listing asked (now (ops .entry)) (take i path) n (byStep left (now (t .entry)) (opsIn rest (now (ops .entry)) i)) (listed, (now (room .entry), now (tallies .entry))) ≡ (r, (now (room .exit), now (tallies .exit))) ⌝ }
+    ensures { λ r. ⌜ listing asked (now (ops .entry)) (take i path) n
+        (byStep left (now (t .entry)) (opsIn rest (now (ops .entry)) i))
+        (listed, (now (room .entry), now (tallies .entry)))
+        ≡ (r, (now (room .exit), now (tallies .exit))) ⌝ }
 {
     if SMALL < t.len() {
         return explore_large(
@@ -344,7 +352,10 @@ fn explore_large(
 ) -> Listed
     requires { ⌜ Exploring (length (now t)) (length (now copy)) (length (now ops)) asked i rest left n ⌝ }
     requires { ⌜ TableOf s (now t) × (s ≡ sizesOf asked) × (begun (opIn (now ops) i) (now t) .0 ≡ true) ⌝ }
-    ensures { λ r. ⌜ listing asked (now (ops .entry)) (take i path) n (byStep left (now (t .entry)) (opsIn rest (now (ops .entry)) i)) (listed, (now (room .entry), now (tallies .entry))) ≡ (r, (now (room .exit), now (tallies .exit))) ⌝ }
+    ensures { λ r. ⌜ listing asked (now (ops .entry)) (take i path) n
+        (byStep left (now (t .entry)) (opsIn rest (now (ops .entry)) i))
+        (listed, (now (room .entry), now (tallies .entry)))
+        ≡ (r, (now (room .exit), now (tallies .exit))) ⌝ }
 {
     let mut saved = [0u16; WORDS];
     let here = t.len();
@@ -385,7 +396,10 @@ pub fn explore_begin(
 ) -> Listed
     requires { ⌜ Exploring (length (now t)) (length (now copy)) (length (now ops)) asked i rest left n ⌝ }
     requires { ⌜ TableOf s (now t) × (s ≡ sizesOf asked) ⌝ }
-    ensures { λ r. ⌜ listing asked (now (ops .entry)) (take i path) n (byBegin left (now (t .entry)) (opsIn rest (now (ops .entry)) i)) (listed, (now (room .entry), now (tallies .entry))) ≡ (r, (now (room .exit), now (tallies .exit))) ⌝ }
+    ensures { λ r. ⌜ listing asked (now (ops .entry)) (take i path) n
+        (byBegin left (now (t .entry)) (opsIn rest (now (ops .entry)) i))
+        (listed, (now (room .entry), now (tallies .entry)))
+        ≡ (r, (now (room .exit), now (tallies .exit))) ⌝ }
 {
     if left == 0 {
         return listed;
