@@ -26,10 +26,8 @@ use Rattle.table.specs.declared.Turned.{Turned}
 use Rattle.table.specs.declared.Turned.the-variants.{Next, Stray}
 use Rattle.steps.specs.declared.Served.{Served}
 use Rattle.steps.specs.declared.Served.the-variants.{At, Nobody}
-use Rattle.steps.specs.declared.Held.{Held}
-use Rattle.steps.specs.declared.Held.the-variants.{Going, Ended, Damaged}
 use Rattle.steps.specs.Step.{Out, serving, sound, endOf, stepServed, stepSized}
-use Rattle.steps.specs.Held.{followed, follow, held, back}
+use Rattle.steps.specs.Held.{Held, Going, Ended, Damaged, followed, follow, held, back}
 use Rattle.steps.specs.Laws.{step-held, serving-below}
 use Rattle.steps.specs.Keeping.{kind, Goes, held-goes, Left, held-leaves}
 

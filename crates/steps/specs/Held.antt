@@ -1,5 +1,4 @@
--- What our own functions hand each other while the served frame is held beside the table: its step there, and the step that
--- it is once the frame is put back.
+-- A step of the served frame, held beside the table: what it does there, and the step that it is once the frame is put back.
 use Prim.Native.Nat.{ℕ}
 use mathlib.Core.List.{List}
 use mathlib.Core.Bool.{cond}
@@ -7,6 +6,7 @@ use Rattle.words.specs.declared.Level.{Level}
 use Rattle.words.specs.declared.Sizes.{Sizes}
 use Rattle.words.specs.declared.Frame.{Frame}
 use Rattle.words.specs.Layout.{level, putFrame, noFrame}
+use Rattle.answers.specs.declared.End.{End}
 use Rattle.answers.specs.Said.{Said, refused, says, Step, going-on, ended, Run, after, an-end, spent, nothing-runs, refusal-10}
 use Rattle.table.specs.Points.{pointOf}
 use Rattle.table.specs.Table.{row}
@@ -14,9 +14,13 @@ use Rattle.table.specs.Turn.{turned}
 use Rattle.table.specs.declared.After.the-variants.{Go, Done}
 use Rattle.table.specs.declared.Turned.{Turned}
 use Rattle.table.specs.declared.Turned.the-variants.{Next, Stray}
-use Rattle.steps.specs.declared.Held.{Held}
-use Rattle.steps.specs.declared.Held.the-variants.{Going, Ended, Damaged}
 use Rattle.steps.specs.Step.{Out, sound, endOf}
+
+-- what a step leaves of the frame
+pub data Held : Type 0 where
+  Going : Frame → Held
+  Ended : End → Held
+  Damaged : Held
 
 unfoldable pub followed : Level → Frame → Turned → Held
 followed l f (Next (Go g)) = Going g
@@ -26,9 +30,13 @@ followed l f Stray = Damaged
 abbrev pub follow : Level → Frame → Turned × List ℕ → Held × List ℕ
 follow l f x = (followed l f (x .0), x .1)
 
+-- the access of the frame's row
+abbrev pub turnOf : Sizes → List ℕ → Level → Frame → Turned × List ℕ
+turnOf s t l f = turned s t (row (pointOf (f .point)) f l (level (s .levels)))
+
 -- f has this step counted
 unfoldable pub held : Sizes → List ℕ → Level → Frame → Held × List ℕ
-held s t l f = cond (sound s f) (follow l f (turned s t (row (pointOf (f .point)) f l (level (s .levels))))) (Damaged, t)
+held s t l f = cond (sound s f) (follow l f (turnOf s t l f)) (Damaged, t)
 
 -- f is the frame before the step
 unfoldable pub back : Sizes → Level → Frame → Held → List ℕ → Out

@@ -17,17 +17,16 @@ use Rattle.words.specs.Layout.{level, words, has, rd, wr, frameOf, putFrame}
 use Rattle.words.specs.Laws.{has-use, rd-other, frame-wr, frame-same, frame-other, wr-length}
 use Rattle.table.specs.Points as point
 use Rattle.table.specs.Points.{Point, pointOf}
-use Rattle.table.specs.Frames.{counted, ifEq, belowKTo, belowMTo, walkTo}
+use Rattle.table.specs.Frames.{counted, belowKTo, belowMTo, walkTo}
 use Rattle.table.specs.Table.{Row, loads, stores, frees, nothing, row}
 use Rattle.table.specs.Turn.{turned}
+use Rattle.table.specs.Laws.{if-of, either}
 use Rattle.table.specs.declared.After.{After}
 use Rattle.table.specs.declared.After.the-variants.{Go, Done}
 use Rattle.table.specs.declared.Turned.{Turned}
 use Rattle.table.specs.declared.Turned.the-variants.{Next, Stray}
-use Rattle.steps.specs.declared.Held.{Held}
-use Rattle.steps.specs.declared.Held.the-variants.{Going, Damaged}
 use Rattle.steps.specs.Step.{serving, sound}
-use Rattle.steps.specs.Held.{followed, follow, held}
+use Rattle.steps.specs.Held.{Held, Going, Damaged, followed, follow, held}
 
 -- ---- the op and the queue of a frame that goes on
 
@@ -38,18 +37,6 @@ kind f = (f .op, f .queue .0)
 unfoldable pub kindAfter : ℕ × ℕ → After → ℕ × ℕ
 kindAfter o (Go g) = kind g
 kindAfter o (Done n) = o
-
-kind-if : (o : ℕ × ℕ) (a b : ℕ) (x y : After) → kindAfter o (ifEq a b x y) ≡ cond (eqb a b) (kindAfter o x) (kindAfter o y)
-unfolding ifEq
-kind-if o a b x y = by (eqb a b)
-  where
-    by : (c : Bool) → kindAfter o (cond c x y) ≡ cond c (kindAfter o x) (kindAfter o y)
-    by true = refl
-    by false = refl
-
-either : (b : Bool) (o : ℕ × ℕ) → cond b o o ≡ o
-either true o = refl
-either false o = refl
 
 -- what follows a row's access, where it loaded x
 unfoldable pub kindOf : ℕ × ℕ → ℕ → Row → ℕ × ℕ
@@ -63,39 +50,39 @@ unfolding kindOf kindAfter row belowKTo belowMTo walkTo
 kind-kept =
     elim [
       | point.E1 ↦ λ f l top x. refl
-      | point.E2 ↦ λ f l top x. simp (kind-if, either)
-      | point.E3 ↦ λ f l top x. simp (kind-if, either)
+      | point.E2 ↦ λ f l top x. simp (if-of (kindAfter (kind f)), either)
+      | point.E3 ↦ λ f l top x. simp (if-of (kindAfter (kind f)), either)
       | point.E4 ↦ λ f l top x. refl
-      | point.E5 ↦ λ f l top x. simp (kind-if, either)
-      | point.E6 ↦ λ f l top x. simp (kind-if, either)
+      | point.E5 ↦ λ f l top x. simp (if-of (kindAfter (kind f)), either)
+      | point.E6 ↦ λ f l top x. simp (if-of (kindAfter (kind f)), either)
       | point.E7 ↦ λ f l top x. refl
-      | point.E8 ↦ λ f l top x. simp (kind-if, either)
+      | point.E8 ↦ λ f l top x. simp (if-of (kindAfter (kind f)), either)
       | point.E9 ↦ λ f l top x. refl
-      | point.E10 ↦ λ f l top x. simp (kind-if, either)
+      | point.E10 ↦ λ f l top x. simp (if-of (kindAfter (kind f)), either)
       | point.E11 ↦ λ f l top x. refl
       | point.E12 ↦ λ f l top x. refl
-      | point.E13 ↦ λ f l top x. simp (kind-if, either)
-      | point.E14 ↦ λ f l top x. simp (kind-if, either)
+      | point.E13 ↦ λ f l top x. simp (if-of (kindAfter (kind f)), either)
+      | point.E14 ↦ λ f l top x. simp (if-of (kindAfter (kind f)), either)
       | point.E15 ↦ λ f l top x. refl
-      | point.E16 ↦ λ f l top x. simp (kind-if, either)
+      | point.E16 ↦ λ f l top x. simp (if-of (kindAfter (kind f)), either)
       | point.E17 ↦ λ f l top x. refl
       | point.E18 ↦ λ f l top x. refl
-      | point.E19 ↦ λ f l top x. simp (kind-if, either)
+      | point.E19 ↦ λ f l top x. simp (if-of (kindAfter (kind f)), either)
       | point.E20 ↦ λ f l top x. refl
       | point.E21 ↦ λ f l top x. refl
       | point.E22 ↦ λ f l top x. refl
-      | point.E23 ↦ λ f l top x. simp (kind-if, either)
+      | point.E23 ↦ λ f l top x. simp (if-of (kindAfter (kind f)), either)
       | point.E24 ↦ λ f l top x. refl
-      | point.E25 ↦ λ f l top x. simp (kind-if, either)
+      | point.E25 ↦ λ f l top x. simp (if-of (kindAfter (kind f)), either)
       | point.E26 ↦ λ f l top x. refl
       | point.E27 ↦ λ f l top x. refl
       | point.E28 ↦ λ f l top x. refl
-      | point.E29 ↦ λ f l top x. simp (kind-if, either)
+      | point.E29 ↦ λ f l top x. simp (if-of (kindAfter (kind f)), either)
       | point.D1 ↦ λ f l top x. refl
-      | point.D2 ↦ λ f l top x. simp (kind-if, either)
-      | point.D3 ↦ λ f l top x. simp (kind-if, either)
+      | point.D2 ↦ λ f l top x. simp (if-of (kindAfter (kind f)), either)
+      | point.D3 ↦ λ f l top x. simp (if-of (kindAfter (kind f)), either)
       | point.D4 ↦ λ f l top x. refl
-      | point.D5 ↦ λ f l top x. simp (kind-if, either)
+      | point.D5 ↦ λ f l top x. simp (if-of (kindAfter (kind f)), either)
       | point.D6 ↦ λ f l top x. refl
       | point.D7 ↦ λ f l top x. refl
       | point.Unknown ↦ λ f l top x. refl

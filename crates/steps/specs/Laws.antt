@@ -25,11 +25,9 @@ use Rattle.table.specs.declared.After.the-variants.{Go, Done}
 use Rattle.table.specs.declared.Turned.{Turned}
 use Rattle.table.specs.declared.Turned.the-variants.{Next, Stray}
 use Rattle.steps.specs.declared.Served.the-variants.{At}
-use Rattle.steps.specs.declared.Held.{Held}
-use Rattle.steps.specs.declared.Held.the-variants.{Damaged}
 use Rattle.steps.specs.Step.{Out, serving, sound, settled, performed, stepFrame, stepServed, stepSized}
 use Rattle.steps.specs.Run.{ranOn, runFrom}
-use Rattle.steps.specs.Held.{followed, follow, held, back}
+use Rattle.steps.specs.Held.{Held, Damaged, followed, follow, held, back}
 
 -- ---- the search for the level to serve, from i downwards
 

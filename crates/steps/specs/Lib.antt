@@ -4,6 +4,8 @@ pub mod Whole
 pub mod Held
 pub mod Laws
 pub mod Keeping
+pub mod Counting
+pub mod Soundness
 pub mod Holding
 pub mod Singly
 pub mod After

@@ -6,10 +6,11 @@ ghost use Rattle.words.specs.Layout.{measured};
 ghost use Rattle.words.specs.declared.Measured.the-variants.{Sized};
 ghost use Rattle.answers.specs.Said.{stepSays, runSays};
 ghost use Rattle.steps.specs.declared.Served.the-variants.{At};
-ghost use Rattle.steps.specs.Step.{serving, strays, sound, stepSized, stepOf};
+ghost use Rattle.steps.specs.Step.{serving, strays, sound, endOf, stepSized, stepOf};
 ghost use Rattle.steps.specs.Run.{runFrom, runOf};
 ghost use Rattle.steps.specs.Whole.{wholeFrom, ranFrom};
-ghost use Rattle.steps.specs.Held.{followed, held, stepOfRun};
+ghost use Rattle.steps.specs.Held.{stepOfRun};
+ghost use Rattle.steps.specs.Counting.{later, setSteps};
 use answers::End;
 use answers::Ran;
 use answers::Stepped;
@@ -19,18 +20,12 @@ use table::Turned;
 use words::Frame;
 use words::Level;
 use words::Measured;
+use words::Node;
 use words::Sizes;
 
 pub enum Served {
     At(Level),
     Nobody,
-}
-
-// What a step leaves of a frame that is held beside the table.
-pub enum Held {
-    Going(Frame),
-    Ended(End),
-    Damaged,
 }
 
 // The highest level below n whose op is not 0.
@@ -76,67 +71,70 @@ fn is_sound(s: Sizes, f: Frame) -> bool
     }
 }
 
-fn follow(l: Level, f: Frame, x: Turned) -> Held
-    ensures { λ r. ⌜ r ≡ followed l f x ⌝ }
+// The steps word after n steps more; 65,535 stays.
+fn add_steps(first: u16, n: u16) -> u16
+    ensures { λ r. ⌜ r ≡ later first n ⌝ }
 {
-    match x {
-        Turned::Next(next) => match next {
-            After::Go(g) => Held::Going(g),
-            After::Done(n) => {
-                let q = f.queue;
-                Held::Ended(End {
-                    op: f.op,
-                    level: l,
-                    queue: q,
-                    node: n,
-                    steps: f.steps,
-                })
-            }
-        },
-        Turned::Stray => Held::Damaged,
+    if n <= 65535 - first { first + n } else { 65535 }
+}
+
+fn with_steps(mut f: Frame, steps: u16) -> Frame
+    ensures { λ r. ⌜ r ≡ setSteps steps f ⌝ }
+{
+    f.steps = steps;
+    f
+}
+
+// What an operation's last step answers.
+fn end_of(l: Level, f: Frame, n: Node) -> End
+    ensures { λ r. ⌜ r ≡ endOf l f n ⌝ }
+{
+    let queue = f.queue;
+    End {
+        op: f.op,
+        level: l,
+        queue,
+        node: n,
+        steps: f.steps,
     }
 }
 
-// The step of a frame that is held beside the table.
-fn hold(t: &mut [u16], s: Sizes, l: Level, f: Frame) -> Held
-    requires { ⌜ Fits s (now t) ⌝ }
-    ensures { λ r. ⌜ held s (now (t .entry)) l f ≡ (r, now (t .exit)) ⌝ }
-{
-    if is_sound(s, f) {
-        let top = Level(words::narrow(s.levels));
-        follow(l, f, table::turn(t, s, l, top, f))
-    } else {
-        Held::Damaged
-    }
-}
-
-// A run of level l, which is served throughout: its frame is held beside the table and put back at the end.
+// A run of level l, which is served throughout. Its frame is held beside the table, and put back at the end with its steps counted; that
+// it gives no refusal 10 by itself is asked once, since a step that goes on keeps that so.
 fn run_level(t: &mut [u16], s: Sizes, l: Level, budget: u16) -> Ran
     requires { ⌜ Fits s (now t) ⌝ }
-    requires { ⌜ serving s (now t) (s .levels) ≡ At l ⌝ }
+    requires { ⌜ (serving s (now t) (s .levels) ≡ At l) × (1 ≤ budget) ⌝ }
     ensures { λ r. ⌜ runFrom s budget 0 (now (t .entry)) ≡ (runSays r, now (t .exit)) ⌝ }
 {
     let mut f = words::read_frame(t, s, l);
+    if !is_sound(s, f) {
+        return Ran::Damaged(0);
+    }
+    let top = Level(words::narrow(s.levels));
+    let first = f.steps;
     let mut left = budget;
     let mut n: u16 = 0;
     while 0 < left {
-        match hold(t, s, l, table::count_step(f)) {
-            Held::Going(g) => {
-                f = g;
-                left -= 1;
-                n += 1;
-            }
-            Held::Ended(e) => {
-                words::write_frame(t, s, l, words::no_frame());
-                return Ran::Ended(n + 1, e);
-            }
-            Held::Damaged => {
-                words::write_frame(t, s, l, f);
+        match table::turn(t, s, l, top, f) {
+            Turned::Next(next) => match next {
+                After::Go(g) => {
+                    f = g;
+                    left -= 1;
+                    n += 1;
+                }
+                After::Done(x) => {
+                    words::write_frame(t, s, l, words::no_frame());
+                    let last = with_steps(f, add_steps(first, n + 1));
+                    return Ran::Ended(n + 1, end_of(l, last, x));
+                }
+            },
+            Turned::Stray => {
+                words::write_frame(t, s, l, with_steps(f, add_steps(first, n)));
                 return Ran::Damaged(n);
             }
         }
     }
-    words::write_frame(t, s, l, f);
+    words::write_frame(t, s, l, with_steps(f, add_steps(first, n)));
     Ran::Spent(n)
 }
 

@@ -2,13 +2,13 @@
 use Prim.Native.Nat.{ℕ}
 use mathlib.Core.Path.{_≡_, refl}
 use mathlib.Core.List.{List, [], _∷_}
-use mathlib.Core.Bool.{false}
+use mathlib.Core.Bool.{Bool, true, false, cond}
 use lib.Dec.{eqb}
 use borrow.Author.Tests.{eq-eqb, ne-eqb}
 use Rattle.table.specs.declared.After.{After}
 use Rattle.table.specs.Frames.{ifEq}
 use Rattle.table.specs.Points as point
-use Rattle.table.specs.Points.{Point, Unknown, numberOf, points, pointIn, pointOf}
+use Rattle.table.specs.Points.{Point, Unknown, numberOf, pointIn, pointOf}
 
 -- a point's number stands for it
 back : (x : Point) → pointOf (numberOf x) ≡ x
@@ -80,3 +80,16 @@ if-same a b x y e = simp (eq-eqb a b e)
 pub if-other : (a b : ℕ) (x y : After) → (a ≡ b → ⊥) → ifEq a b x y ≡ y
 unfolding ifEq
 if-other a b x y n = simp (ne-eqb a b n)
+
+-- what is worked out of a branch
+pub if-of : {A : Type 0} (f : After → A) (a b : ℕ) (x y : After) → f (ifEq a b x y) ≡ cond (eqb a b) (f x) (f y)
+unfolding ifEq
+if-of {A} f a b x y = by (eqb a b)
+  where
+    by : (c : Bool) → f (cond c x y) ≡ cond {A = A} c (f x) (f y)
+    by true = refl
+    by false = refl
+
+pub either : {A : Type 0} (b : Bool) (x : A) → cond b x x ≡ x
+either true x = refl
+either false x = refl

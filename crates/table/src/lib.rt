@@ -4,7 +4,7 @@ ghost use mathlib.Core.List.{map};
 ghost use Rattle.table.specs.Points.{pointOf, numberOf, points};
 ghost use Rattle.words.specs.Inner.{Fits};
 ghost use Rattle.table.specs.declared.After.the-variants.{Go, Done};
-ghost use Rattle.table.specs.Frames.{counted, goTo, belowKTo, belowMTo};
+ghost use Rattle.table.specs.Frames.{goTo, belowKTo, belowMTo};
 ghost use Rattle.table.specs.Table.{row};
 ghost use Rattle.table.specs.Turn.{loaded, stored, follows, turned};
 use words::Frame;
@@ -164,19 +164,6 @@ fn apart(f: Frame) -> Frame
         r,
         m,
         steps: f.steps,
-    }
-}
-
-// One step more; 65,535 stays.
-pub fn count_step(mut f: Frame) -> Frame
-    ensures { λ r. ⌜ r ≡ counted f ⌝ }
-{
-    let n = f.steps;
-    if n < 65535 {
-        f.steps = n + 1;
-        apart(f)
-    } else {
-        apart(f)
     }
 }
 

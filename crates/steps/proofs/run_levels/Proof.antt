@@ -57,8 +57,9 @@ run-level-requires c κs =
     let loop-inv-2 = c .before .before .before .before .before .before .before .loop .inv .2 in
     let loop-inv-3-1 = c .before .before .before .before .before .before .before .loop .inv .3 .1 in
     let find-served-says = c .before .before .before .before .find-served .ensures in
-    let l-known-1 = c .before .before .l .given .1 in
-    (measured-fits _ _ loop-inv-2, loop-inv-3-1 ∙ told find-served-says l-known-1)
+    let l-1 = c .before .before .l .given .1 in
+    let loop-test-yes = c .before .before .before .before .before .before .loop-test .taken in
+    (measured-fits _ _ loop-inv-2, (loop-inv-3-1 ∙ told find-served-says l-1, loop-test-yes))
 
 -- src/lib.rt:166:28
 enum-known-k : tie.Need-enum-known-k Inv-loop μ-loop

@@ -27,8 +27,9 @@ run-level-requires : tie.Need-run-level-requires
 run-level-requires c κs =
     let pre = c .before .before .before .before .before .before .before .before .pre in
     let find-served-says = c .before .before .before .before .find-served .ensures in
-    let l-known-1 = c .before .before .l .given .1 in
-    (measured-fits _ _ pre, told find-served-says l-known-1)
+    let l-1 = c .before .before .l .given .1 in
+    let if1-no = c .before .before .before .before .before .before .if1 .left in
+    (measured-fits _ _ pre, (told find-served-says l-1, search (needs, if1-no)))
 
 -- src/lib.rt:185:27
 enum-told : tie.Need-enum-told

@@ -24,8 +24,8 @@ run-level-requires : tie.Need-run-level-requires
 run-level-requires c κs =
     let pre = c .before .before .before .before .before .before .before .pre in
     let find-served-says = c .before .before .before .before .find-served .ensures in
-    let l-known-1 = c .before .before .l .given .1 in
-    (measured-fits _ _ pre, told find-served-says l-known-1)
+    let l-1 = c .before .before .l .given .1 in
+    (measured-fits _ _ pre, (told find-served-says l-1, search needs))
 
 -- src/lib.rt:161:26
 step-of-run-requires : tie.Need-step-of-run-requires
