@@ -3,7 +3,7 @@ ghost use mathlib.Core.Path.{_≡_};
 ghost use Prim.Native.Nat.{_<_};
 ghost use Rattle.words.specs.Layout.{node};
 ghost use Rattle.words.specs.Inner.{Fits};
-ghost use Rattle.answers.specs.Said.{doneSays};
+ghost use Rattle.answers.specs.Said.{says, doneSays};
 ghost use Rattle.table.specs.Points.{E1, D1};
 ghost use Rattle.begins.specs.Begin.{begun, begunAt, enqueueWhy, enqueueSized, enqueueOf, dequeueWhy, dequeueSized, dequeueOf};
 use answers::Done;
@@ -51,15 +51,24 @@ pub fn enqueue_why(t: &[u16], s: Sizes, l: Level, q: Queue, n: Node) -> u16
     0
 }
 
+// Begins an enqueue that is not refused, on a table that was measured.
+pub fn put_enqueue(t: &mut [u16], s: Sizes, l: Level, q: Queue, n: Node)
+    requires { ⌜ Fits s (now t) ⌝ }
+    requires { ⌜ enqueueWhy s (now t) l q n ≡ 0 ⌝ }
+    ensures { λ _. ⌜ enqueueSized s (now (t .entry)) l q n ≡ (says tt, now (t .exit)) ⌝ }
+{
+    words::write_frame(t, s, l, begin_frame(1, Point::E1, q, n));
+    words::store(t, s, Word::Use(n), q.0);
+}
+
 // Begins an enqueue on a table that was measured.
-pub fn enqueue_sized(t: &mut [u16], s: Sizes, l: Level, q: Queue, n: Node) -> Done
+fn enqueue_sized(t: &mut [u16], s: Sizes, l: Level, q: Queue, n: Node) -> Done
     requires { ⌜ Fits s (now t) ⌝ }
     ensures { λ r. ⌜ enqueueSized s (now (t .entry)) l q n ≡ (doneSays r, now (t .exit)) ⌝ }
 {
     let why = enqueue_why(t, s, l, q, n);
     if why == 0 {
-        words::write_frame(t, s, l, begin_frame(1, Point::E1, q, n));
-        words::store(t, s, Word::Use(n), q.0);
+        put_enqueue(t, s, l, q, n);
         Done::Yes
     } else {
         Done::Refused(why)
@@ -96,14 +105,23 @@ pub fn dequeue_why(t: &[u16], s: Sizes, l: Level, q: Queue) -> u16
     0
 }
 
+// Begins a dequeue that is not refused, on a table that was measured.
+pub fn put_dequeue(t: &mut [u16], s: Sizes, l: Level, q: Queue)
+    requires { ⌜ Fits s (now t) ⌝ }
+    requires { ⌜ dequeueWhy s (now t) l q ≡ 0 ⌝ }
+    ensures { λ _. ⌜ dequeueSized s (now (t .entry)) l q ≡ (says tt, now (t .exit)) ⌝ }
+{
+    words::write_frame(t, s, l, begin_frame(2, Point::D1, q, Node(0)));
+}
+
 // Begins a dequeue on a table that was measured.
-pub fn dequeue_sized(t: &mut [u16], s: Sizes, l: Level, q: Queue) -> Done
+fn dequeue_sized(t: &mut [u16], s: Sizes, l: Level, q: Queue) -> Done
     requires { ⌜ Fits s (now t) ⌝ }
     ensures { λ r. ⌜ dequeueSized s (now (t .entry)) l q ≡ (doneSays r, now (t .exit)) ⌝ }
 {
     let why = dequeue_why(t, s, l, q);
     if why == 0 {
-        words::write_frame(t, s, l, begin_frame(2, Point::D1, q, Node(0)));
+        put_dequeue(t, s, l, q);
         Done::Yes
     } else {
         Done::Refused(why)

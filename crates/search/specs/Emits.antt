@@ -23,7 +23,8 @@ use Rattle.search.specs.declared.Asked.{Asked}
 use Rattle.search.specs.declared.Listed.{Listed}
 use Rattle.search.specs.declared.What.{What}
 use Rattle.search.specs.declared.What.the-variants.{Count, Tally, Measure, Write}
-use Rattle.search.specs.Walk.{sizesOf, opsOf, entryText, State, more, shut, fits, noted, written, entered, emitted, tailed}
+use Rattle.search.specs.Walk.{sizesOf, opsOf, entryText, State, more, going, cut, full, shut}
+use Rattle.search.specs.Walk.{fits, noted, written, entered, emitted, tailed}
 use Rattle.search.specs.Laws.{count-more}
 
 -- ---- the text by the counts that are used of a path
@@ -92,7 +93,7 @@ module _ (text room : List ℕ) (l : Listed) (n : ℕ) (b : Bool) (size : n ≡ 
   unfolding noted
   measured-fits r y e = rw (test, y, ← size, e) refl
 
-  pub measured-full : (r : Listed) → b ≡ false → r ≡ shut true l → r ≡ noted text l room
+  pub measured-full : (r : Listed) → b ≡ false → r ≡ shut full l → r ≡ noted text l room
   unfolding noted
   measured-full r y e = rw (test, y, e) refl
 
@@ -107,16 +108,12 @@ module _ (text room : List ℕ) (l : Listed) (n : ℕ) (b : Bool) (size : n ≡ 
 -- ---- one schedule more
 
 module _ (a : Asked) (ws : List ℕ) where
-  pub emit-closed : (cs : List ℕ) (st : State) → st .0 .closed ≡ true → emitted a ws cs st ≡ st
-  unfolding emitted
-  emit-closed cs st h = rw h refl
-
-  pub emit-bound : (cs : List ℕ) (l r : Listed) (lent : List ℕ × List ℕ) → l .closed ≡ false → a .bound ≤ l .count
-      → r ≡ shut (l .full) l → emitted a ws cs (l, lent) ≡ (r, lent)
+  pub emit-bound : (cs : List ℕ) (l r : Listed) (lent : List ℕ × List ℕ) → l .stop ≡ going → a .bound ≤ l .count
+      → r ≡ shut cut l → emitted a ws cs (l, lent) ≡ (r, lent)
   unfolding emitted
   emit-bound cs l r lent h k e = rw (h, le-leb (a .bound) (l .count) k, e) refl
 
-  pub emit-open : (cs : List ℕ) (st : State) → st .0 .closed ≡ false → st .0 .count < a .bound
+  pub emit-open : (cs : List ℕ) (st : State) → st .0 .stop ≡ going → st .0 .count < a .bound
       → emitted a ws cs st ≡ entered a ws cs (a .what) st
   unfolding emitted
   emit-open cs st h k = rw (h, lt-leb (a .bound) (st .0 .count) k) refl
@@ -129,11 +126,11 @@ module _ (a : Asked) (ws : List ℕ) where
   entered-take path Measure st = rw (entry-take a ws path) refl
   entered-take path Write st = rw (entry-take a ws path) refl
 
-  module _ (path : List ℕ) (l r : Listed) (room ts : List ℕ) (going : l .closed ≡ false) (wanted : l .count < a .bound) where
+  module _ (path : List ℕ) (l r : Listed) (room ts : List ℕ) (goes : l .stop ≡ going) (wanted : l .count < a .bound) where
     emit-on : (w : What) (out : State) → a .what ≡ w → entered a ws path w (l, (room, ts)) ≡ out
         → emitted a ws (take (a .operations + 1) path) (l, (room, ts)) ≡ out
     emit-on w out e f =
-        emit-open (take (a .operations + 1) path) (l, (room, ts)) going wanted
+        emit-open (take (a .operations + 1) path) (l, (room, ts)) goes wanted
         ∙ entered-take path (a .what) (l, (room, ts))
         ∙ ap (λ (v : What). entered a ws path v (l, (room, ts))) e
         ∙ f

@@ -7,6 +7,7 @@ use native.Mathlib.Omega.{arith}
 use native.Mathlib.Numerals.{add-one, sub-one}
 use lib.ListN.{length, take, set, replicate, length-replicate}
 use lib.Seq.{take-suc-set, length-take-le}
+use borrow.Author.Tests.{ne-eqb}
 use Rattle.words.specs.Layout.{agrees}
 use Rattle.words.specs.Laws.{and-true, measured-agrees, measured-fits}
 use Rattle.ways.specs.declared.Op.{Op}
@@ -17,7 +18,7 @@ use Rattle.ways.specs.Forced.{endIn, stretched, goneOn, lastIn, TableOf}
 use Rattle.ways.specs.Stretches.{stretch-low}
 use Rattle.entries.specs.Texts.{counts}
 use Rattle.search.specs.declared.Asked.{Asked}
-use Rattle.search.specs.Walk.{sizesOf, State, emitted, tailed, listing, Roomy}
+use Rattle.search.specs.Walk.{sizesOf, State, going, emitted, tailed, listing, Roomy}
 
 -- one count more
 pub count-more : (path : List ℕ) (i n : ℕ) → i < length path → take (i + 1) (set path i n) ≡ take i path ++ (n ∷ [])
@@ -61,14 +62,14 @@ module _ (a : Asked) (ws : List ℕ) where
       rw e (listing-begin pre n xs (emitted a ws (pre ++ (n ∷ counts 0 x)) st))
 
   -- nothing more is listed once it is closed
-  emitted-closed : (cs : List ℕ) (st : State) → st .0 .closed ≡ true → emitted a ws cs st ≡ st
+  pub emit-closed : (cs : List ℕ) (st : State) → (st .0 .stop ≡ going → ⊥) → emitted a ws cs st ≡ st
   unfolding emitted
-  emitted-closed cs st h = rw h refl
+  emit-closed cs st h = rw (ne-eqb (st .0 .stop) going h) refl
 
-  pub listing-closed : (pre : List ℕ) (n : ℕ) (xs : List (List Move)) (st : State) → st .0 .closed ≡ true → L pre n xs st ≡ st
+  pub listing-closed : (pre : List ℕ) (n : ℕ) (xs : List (List Move)) (st : State) → (st .0 .stop ≡ going → ⊥) → L pre n xs st ≡ st
   unfolding listing
   listing-closed pre n [] st h = refl
-  listing-closed pre n (x ∷ xs) st h = ap (L pre n xs) (emitted-closed (pre ++ counts n x) st h) ∙ listing-closed pre n xs st h
+  listing-closed pre n (x ∷ xs) st h = ap (L pre n xs) (emit-closed (pre ++ counts n x) st h) ∙ listing-closed pre n xs st h
 
 module _ (a : Asked) (ws pre : List ℕ) where
   -- ---- by what the next step and the next begin give

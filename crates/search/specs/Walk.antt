@@ -1,9 +1,9 @@
 -- The schedules listed one after another, as the explorers do it.
 use Prim.Native.Nat.{ℕ, _+_, _*_, _≤_}
 use mathlib.Core.Path.{_≡_}
-use mathlib.Core.Bool.{Bool, true, false, cond}
+use mathlib.Core.Bool.{Bool, true, cond}
 use mathlib.Core.List.{List, [], _∷_, _++_}
-use lib.Dec.{leb}
+use lib.Dec.{leb, eqb}
 use lib.ListN.{length}
 use lib.Seq.{sets}
 use Rattle.words.specs.declared.Sizes.{Sizes}
@@ -34,17 +34,27 @@ abbrev pub State : Type 0
 State = Listed × (List ℕ × List ℕ)
 
 abbrev pub more : ℕ → Listed → Listed
-more n l = record { count = l .count + 1; at = l .at + n; closed = l .closed; full = l .full }
+more n l = record { count = l .count + 1; at = l .at + n; stop = l .stop }
 
-abbrev pub shut : Bool → Listed → Listed
-shut full l = record { count = l .count; at = l .at; closed = true; full = full }
+-- how a listing stops: not yet; as many are listed as are wanted and one more exists; the next has no room
+abbrev pub going : ℕ
+going = 0
+
+abbrev pub cut : ℕ
+cut = 1
+
+abbrev pub full : ℕ
+full = 2
+
+abbrev pub shut : ℕ → Listed → Listed
+shut x l = record { count = l .count; at = l .at; stop = x }
 
 -- one text more in the room, if it fits
 abbrev pub fits : List ℕ → Listed → List ℕ → Bool
 fits text l room = leb (l .at + length text) (length room)
 
 unfoldable pub noted : List ℕ → Listed → List ℕ → Listed
-noted text l room = cond (fits text l room) (more (length text) l) (shut true l)
+noted text l room = cond (fits text l room) (more (length text) l) (shut full l)
 
 unfoldable pub written : List ℕ → Listed → List ℕ → List ℕ
 written text l room = cond (fits text l room) (sets room (l .at) text) room
@@ -59,7 +69,7 @@ entered a ws cs Write (l, (room, ts)) = (noted (entryText a ws cs) l room, (writ
 -- one schedule more, by its counts: nothing where no more is listed, or where as many are listed as are wanted
 unfoldable pub emitted : Asked → List ℕ → List ℕ → State → State
 emitted a ws cs st =
-    cond (st .0 .closed) st (cond (leb (a .bound) (st .0 .count)) (shut (st .0 .full) (st .0), st .1) (entered a ws cs (a .what) st))
+    cond (eqb (st .0 .stop) going) (cond (leb (a .bound) (st .0 .count)) (shut cut (st .0), st .1) (entered a ws cs (a .what) st)) st
 
 -- the one schedule that ends so, after the counts that stand before
 unfoldable pub tailed : Asked → List ℕ → List ℕ → Tail → State → State
@@ -72,7 +82,7 @@ listing a ws before n [] st = st
 listing a ws before n (ms ∷ mss) st = listing a ws before n mss (emitted a ws (before ++ counts n ms) st)
 
 abbrev pub none : Listed
-none = record { count = 0; at = 0; closed = false; full = false }
+none = record { count = 0; at = 0; stop = going }
 
 -- all of them, where nothing was before
 unfoldable pub listedOf : Asked → List ℕ → List ℕ → List ℕ → State

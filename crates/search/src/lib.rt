@@ -30,13 +30,20 @@ pub struct Asked {
     pub what: What,
 }
 
-// The schedules listed and their bytes; closed where no more is listed, and full where that is for want of room.
+// The schedules listed, their bytes, and how the listing stops. Three words of one width: a copy of a struct that was just written in
+// narrower pieces has to wait for them.
 pub struct Listed {
     pub count: u64,
     pub at: usize,
-    pub closed: bool,
-    pub full: bool,
+    pub stop: u64,
 }
+
+// How a listing stops: not yet; as many are listed as are wanted and one more exists; the next has no room.
+pub const GOING: u64 = 0;
+
+pub const CUT: u64 = 1;
+
+pub const FULL: u64 = 2;
 
 // The most words that a table has, and those of a table of few nodes: an array is cleared before it is used, so a small one is quicker.
 pub const WORDS: usize = 2276;
@@ -51,20 +58,18 @@ fn one_more(listed: Listed, bytes: usize) -> Listed
     Listed {
         count: listed.count + 1,
         at: listed.at + bytes,
-        closed: listed.closed,
-        full: listed.full,
+        stop: listed.stop,
     }
 }
 
-// Nothing more is listed.
-fn close(listed: Listed, full: bool) -> Listed
-    ensures { λ r. ⌜ r ≡ shut full listed ⌝ }
+// Nothing more is listed: CUT, or FULL.
+fn close(listed: Listed, stop: u64) -> Listed
+    ensures { λ r. ⌜ r ≡ shut stop listed ⌝ }
 {
     Listed {
         count: listed.count,
         at: listed.at,
-        closed: true,
-        full,
+        stop,
     }
 }
 
@@ -98,7 +103,7 @@ fn measure_entry(asked: Asked, ops: &[u16], path: [u16; 7], listed: Listed, room
     if has_room(room.len(), listed.at, n) {
         one_more(listed, n)
     } else {
-        close(listed, true)
+        close(listed, FULL)
     }
 }
 
@@ -116,7 +121,7 @@ fn write_entry(asked: Asked, ops: &[u16], path: [u16; 7], listed: Listed, room: 
         entries::write_text(room, listed.at, o, ops, path, asked.operations);
         next
     } else {
-        close(listed, true)
+        close(listed, FULL)
     }
 }
 
@@ -134,11 +139,11 @@ fn emit(
     ensures { λ r. ⌜ emitted asked (now (ops .entry)) (take (asked .operations + 1) path) (listed, (now (room .entry), now (tallies .entry)))
         ≡ (r, (now (room .exit), now (tallies .exit))) ⌝ }
 {
-    if listed.closed {
+    if listed.stop != GOING {
         return listed;
     }
     if asked.bound <= listed.count {
-        return close(listed, listed.full);
+        return close(listed, CUT);
     }
     let what = asked.what;
     match what {
@@ -212,7 +217,7 @@ pub fn explore_step(
         (listed, (now (room .entry), now (tallies .entry)))
         ≡ (r, (now (room .exit), now (tallies .exit))) ⌝ }
 {
-    if listed.closed {
+    if listed.stop != GOING {
         return listed;
     }
     let o = ways::op_in(ops, i);
@@ -404,7 +409,7 @@ pub fn explore_begin(
     if left == 0 {
         return listed;
     }
-    if listed.closed {
+    if listed.stop != GOING {
         return listed;
     }
     if ways::begin_sized(t, s, ways::op_in(ops, i)) {

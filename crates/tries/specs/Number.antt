@@ -16,7 +16,7 @@ use Rattle.search.specs.declared.Listed.{Listed}
 use Rattle.search.specs.declared.What.{What}
 use Rattle.search.specs.declared.What.the-variants.{Count, Tally, Measure, Write}
 use Rattle.search.specs.Emits.{ops-length, emit-open}
-use Rattle.search.specs.Walk.{sizesOf, opsOf, State, more, entered, emitted, listing, none, listedOf}
+use Rattle.search.specs.Walk.{sizesOf, opsOf, State, more, going, entered, emitted, listing, none, listedOf}
 use Rattle.tries.specs.Tries.{talliedAll}
 
 -- ---- a bound: with r operations and fewer than n moves there are at most n to the power of r
@@ -119,18 +119,18 @@ module _ (a : Asked) (ws : List ℕ) where
   unfolding entered
   entered-tallies cs w st e = rw e refl
 
-  tally-one : (cs : List ℕ) (st : State) → a .what ≡ Tally → st .0 .closed ≡ false → st .0 .count < a .bound
+  tally-one : (cs : List ℕ) (st : State) → a .what ≡ Tally → st .0 .stop ≡ going → st .0 .count < a .bound
       → emitted a ws cs st .1 .1 ≡ tallied (sizesOf a) ws (a .operations) cs (st .1 .1)
   tally-one cs st w h k = ap (λ (x : State). x .1 .1) (emit-open a ws cs st h k) ∙ entered-tallies cs (a .what) st w
 
   module _ (counting : Counts (a .what)) where
-    count-one : (cs : List ℕ) (st : State) → st .0 .closed ≡ false → st .0 .count < a .bound
-        → (emitted a ws cs st .0 .count ≡ st .0 .count + 1) × (emitted a ws cs st .0 .closed ≡ false)
+    count-one : (cs : List ℕ) (st : State) → st .0 .stop ≡ going → st .0 .count < a .bound
+        → (emitted a ws cs st .0 .count ≡ st .0 .count + 1) × (emitted a ws cs st .0 .stop ≡ going)
     count-one cs st h k =
         let one = ap (λ (x : State). x .0) (emit-open a ws cs st h k) ∙ entered-counts cs (a .what) st counting in
-        (ap (λ (l : Listed). l .count) one, ap (λ (l : Listed). l .closed) one ∙ h)
+        (ap (λ (l : Listed). l .count) one, ap (λ (l : Listed). l .stop) one ∙ h)
 
-    count-is : (mss : List (List Move)) (st : State) → st .0 .closed ≡ false → st .0 .count + length mss ≤ a .bound
+    count-is : (mss : List (List Move)) (st : State) → st .0 .stop ≡ going → st .0 .count + length mss ≤ a .bound
         → listing a ws [] 0 mss st .0 .count ≡ st .0 .count + length mss
     unfolding listing
     count-is [] st h k = omega arith
@@ -139,7 +139,7 @@ module _ (a : Asked) (ws : List ℕ) where
         let others = count-is mss (emitted a ws (counts 0 ms) st) (one .1) (omega (arith, k, one .0)) in
         omega (arith, others, one .0)
 
-    tallies-are : (mss : List (List Move)) (st : State) → a .what ≡ Tally → st .0 .closed ≡ false → st .0 .count + length mss ≤ a .bound
+    tallies-are : (mss : List (List Move)) (st : State) → a .what ≡ Tally → st .0 .stop ≡ going → st .0 .count + length mss ≤ a .bound
         → listing a ws [] 0 mss st .1 .1 ≡ talliedAll (sizesOf a) ws (a .operations) mss (st .1 .1)
     unfolding listing talliedAll
     tallies-are [] st w h k = refl

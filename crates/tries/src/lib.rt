@@ -11,6 +11,8 @@ ghost use Rattle.tries.specs.Tries.{sizes, why, triedSays, triesOf, numb
 ghost use Rattle.tries.specs.Listed.{short};
 ghost use Rattle.tries.specs.Number.{Counts, Counting};
 use search::Asked;
+use search::FULL;
+use search::GOING;
 use search::Listed;
 use search::WORDS;
 use search::What;
@@ -65,8 +67,7 @@ fn list_all(
     let none = Listed {
         count: 0,
         at: 0,
-        closed: false,
-        full: false,
+        stop: GOING,
     };
     let k = asked.operations;
     let s = sizes_of(asked.levels, asked.queues, asked.nodes);
@@ -127,7 +128,7 @@ fn is_short(t: &mut [u16], copy: &mut [u16], asked: Asked, ops: &[u16], room: &m
         room,
         &mut tallies,
     );
-    measured.full
+    measured.stop == FULL
 }
 
 // The texts in the room; nothing is written where it is too small.
@@ -141,7 +142,7 @@ fn list_texts(t: &mut [u16], copy: &mut [u16], asked: Asked, ops: &[u16], room: 
     let mut tallies = [0u64; 1];
     let listed = list_all(t, copy, asking(What::Write, asked), ops, room, &mut tallies);
     let count = listed.count as u32;
-    if listed.closed {
+    if listed.stop != GOING {
         return Tried::More(count, listed.at);
     }
     Tried::All(count, listed.at)

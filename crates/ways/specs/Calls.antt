@@ -1,18 +1,17 @@
 -- What the calls give: the proofs of the functions that make one call cite these.
 use Prim.Native.Nat.{ℕ}
 use mathlib.Core.Path.{_≡_, refl, sym, ap, _∙_}
-use mathlib.Core.Bool.{Bool, true, false, cond, _&&_}
+use mathlib.Core.Bool.{Bool, true, false, cond, _&&_, false≢true}
 use mathlib.Core.List.{List}
 use lib.Dec.{eqb}
-use borrow.Author.Tests.{ne-eqb}
+use borrow.Author.Tests.{ne-eqb, eqb-true, eqb-false}
 use Rattle.words.specs.declared.Level.{Level}
 use Rattle.words.specs.declared.Queue.{Queue}
 use Rattle.words.specs.declared.Node.{Node}
 use Rattle.words.specs.declared.Sizes.{Sizes}
 use Rattle.words.specs.declared.Measured.the-variants.{Sized, Unfit}
 use Rattle.words.specs.Layout.{measured, frameOf}
-use Rattle.answers.specs.declared.Done.{Done}
-use Rattle.answers.specs.Said.{Said, refused, says, Step, doneSays}
+use Rattle.answers.specs.Said.{Said, refused, says, Step}
 use Rattle.begins.specs.Begin.{unless, enqueueWhy, enqueueSized, enqueueMeasured, enqueueOf}
 use Rattle.begins.specs.Begin.{dequeueWhy, dequeueSized, dequeueMeasured, dequeueOf}
 use Rattle.begins.specs.Keeping.{enqueue-kept, dequeue-kept, enqueue-same, dequeue-same}
@@ -41,25 +40,25 @@ module _ (s : Sizes) (t : List ℕ) (m : measured t ≡ Sized s) where
 abbrev pub Begun : Sizes → List ℕ → Op → Bool → List ℕ → Type 0
 Begun s t o b u = (begun o t ≡ (b, u)) × (measured u ≡ Sized s)
 
-pub begun-enqueue : (s : Sizes) (o : Op) (t u : List ℕ) (a : Done) (b : Bool) → measured t ≡ Sized s → o .op ≡ 1
-    → enqueueSized s t (o .level) (o .queue) (o .node) ≡ (doneSays a, u) → b ≡ accepts (doneSays a) → Begun s t o b u
+pub begun-enqueue : (s : Sizes) (o : Op) (t u : List ℕ) → measured t ≡ Sized s → o .op ≡ 1
+    → enqueueSized s t (o .level) (o .queue) (o .node) ≡ (says tt, u) → Begun s t o true u
 unfolding begun
-begun-enqueue s o t u a b m k e f =
+begun-enqueue s o t u m k e =
     let kept = enqueue-kept s t (o .level) (o .queue) (o .node) m in
-    (rw (k, enqueue-is s t m (o .level) (o .queue) (o .node), e, f) refl, rw e at kept)
+    (rw (k, enqueue-is s t m (o .level) (o .queue) (o .node), e) refl, rw e at kept)
 
-pub begun-dequeue : (s : Sizes) (o : Op) (t u : List ℕ) (a : Done) (b : Bool) → measured t ≡ Sized s → o .op ≡ 2 → o .node .0 ≡ 0
-    → dequeueSized s t (o .level) (o .queue) ≡ (doneSays a, u) → b ≡ accepts (doneSays a) → Begun s t o b u
+pub begun-dequeue : (s : Sizes) (o : Op) (t u : List ℕ) → measured t ≡ Sized s → o .op ≡ 2 → o .node .0 ≡ 0
+    → dequeueSized s t (o .level) (o .queue) ≡ (says tt, u) → Begun s t o true u
 unfolding begun
-begun-dequeue s o t u a b m k z e f =
+begun-dequeue s o t u m k z e =
     let kept = dequeue-kept s t (o .level) (o .queue) m in
-    (rw (k, z, dequeue-is s t m (o .level) (o .queue), e, f) refl, rw e at kept)
+    (rw (k, z, dequeue-is s t m (o .level) (o .queue), e) refl, rw e at kept)
 
-pub begun-odd : (o : Op) (t : List ℕ) → o .op ≡ 2 → (o .node .0 ≡ 0 → ⊥) → begun o t ≡ (false, t)
+begun-odd : (o : Op) (t : List ℕ) → o .op ≡ 2 → (o .node .0 ≡ 0 → ⊥) → begun o t ≡ (false, t)
 unfolding begun
 begun-odd o t k z = rw (k, ne-eqb _ 0 z) refl
 
-pub begun-none : (o : Op) (t : List ℕ) → (o .op ≡ 1 → ⊥) → (o .op ≡ 2 → ⊥) → begun o t ≡ (false, t)
+begun-none : (o : Op) (t : List ℕ) → (o .op ≡ 1 → ⊥) → (o .op ≡ 2 → ⊥) → begun o t ≡ (false, t)
 unfolding begun
 begun-none o t k z = rw (ne-eqb _ 1 k, ne-eqb _ 2 z) refl
 
@@ -114,6 +113,59 @@ may-odd o t k z = sym (ap (λ (x : Tried). x .0) (begun-odd o t k z))
 
 pub may-none : (o : Op) (t : List ℕ) → (o .op ≡ 1 → ⊥) → (o .op ≡ 2 → ⊥) → false ≡ begun o t .0
 may-none o t k z = sym (ap (λ (x : Tried). x .0) (begun-none o t k z))
+
+-- an operation that would begin: no refusal is given
+pub accepted-enqueue : (o : Op) (s : Sizes) (t : List ℕ) → o .op ≡ 1 → measured t ≡ Sized s → begun o t .0 ≡ true
+    → enqueueWhy s t (o .level) (o .queue) (o .node) ≡ 0
+accepted-enqueue o s t k m h = eqb-true _ 0 (may-enqueue o s t (enqueueWhy s t (o .level) (o .queue) (o .node)) k m refl ∙ h)
+
+pub accepted-two : (o : Op) (t : List ℕ) → (o .op ≡ 1 → ⊥) → begun o t .0 ≡ true → o .op ≡ 2
+accepted-two o t k h = by (eqb (o .op) 2) refl
+  where
+    by : (b : Bool) → eqb (o .op) 2 ≡ b → o .op ≡ 2
+    by true e = eqb-true (o .op) 2 e
+    by false e = absurd (false≢true (may-none o t k (eqb-false (o .op) 2 e) ∙ h))
+
+pub accepted-nodeless : (o : Op) (t : List ℕ) → o .op ≡ 2 → begun o t .0 ≡ true → o .node .0 ≡ 0
+accepted-nodeless o t k h = by (eqb (o .node .0) 0) refl
+  where
+    by : (b : Bool) → eqb (o .node .0) 0 ≡ b → o .node .0 ≡ 0
+    by true e = eqb-true (o .node .0) 0 e
+    by false e = absurd (false≢true (may-odd o t k (eqb-false (o .node .0) 0 e) ∙ h))
+
+pub accepted-dequeue : (o : Op) (s : Sizes) (t : List ℕ) → o .op ≡ 2 → o .node .0 ≡ 0 → measured t ≡ Sized s → begun o t .0 ≡ true
+    → dequeueWhy s t (o .level) (o .queue) ≡ 0
+accepted-dequeue o s t k z m h = eqb-true _ 0 (may-dequeue o s t (dequeueWhy s t (o .level) (o .queue)) k z m refl ∙ h)
+
+-- and one that would not leaves the table
+unless-stays : (why : ℕ) (t new : List ℕ) → accepts (unless why t new .0) ≡ false → tried (unless why t new) ≡ (false, t)
+unfolding unless
+unless-stays why t new = by (eqb why 0)
+  where
+    by : (b : Bool) → accepts (cond {A = Said Unit × List ℕ} b (says tt, new) (refused why, t) .0) ≡ false
+        → tried (cond {A = Said Unit × List ℕ} b (says tt, new) (refused why, t)) ≡ (false, t)
+    by true h = absurd (false≢true (sym h))
+    by false h = refl
+
+pub refused-stays : (o : Op) (s : Sizes) (t : List ℕ) → measured t ≡ Sized s → begun o t .0 ≡ false → begun o t ≡ (false, t)
+unfolding begun enqueueSized dequeueSized
+refused-stays o s t m = by (eqb (o .op) 1) (eqb (o .op) 2 && eqb (o .node .0) 0)
+  where
+    enqueued : Said Unit × List ℕ
+    enqueued = enqueueOf t (o .level) (o .queue) (o .node)
+
+    taken : Said Unit × List ℕ
+    taken = dequeueOf t (o .level) (o .queue)
+
+    by : (a b : Bool) → cond {A = Tried} a (tried enqueued) (cond {A = Tried} b (tried taken) (false, t)) .0 ≡ false
+        → cond {A = Tried} a (tried enqueued) (cond {A = Tried} b (tried taken) (false, t)) ≡ (false, t)
+    by true b h =
+        let is = enqueue-is s t m (o .level) (o .queue) (o .node) in
+        rw is (unless-stays (enqueueWhy s t (o .level) (o .queue) (o .node)) t _ (rw is at h))
+    by false true h =
+        let is = dequeue-is s t m (o .level) (o .queue) in
+        rw is (unless-stays (dequeueWhy s t (o .level) (o .queue)) t _ (rw is at h))
+    by false false h = refl
 
 -- an operation that would begin still would after a step that goes on, and one that would not still would not
 pub begun-steady : (o : Op) (s : Sizes) (t u : List ℕ) → measured t ≡ Sized s → measured u ≡ Sized s → Steady s t u

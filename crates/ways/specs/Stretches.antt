@@ -136,13 +136,8 @@ unfolding lastIn
 last-none o zero t h = refl
 last-none o (suc left) t h = absurd (omega arith)
 
-pub last-begun : (o : Op) (left : ℕ) (t u : List ℕ) (b : Bool) (x : Tail) → (left ≡ 0 → ⊥) → begun o t ≡ (b, u) → b ≡ true
-    → endIn (left - 1) 0 u ≡ x → lastIn o left t ≡ x
+pub last-begun : (o : Op) (left : ℕ) (t u : List ℕ) (x : Tail) → (left ≡ 0 → ⊥) → begun o t ≡ (true, u) → endIn (left - 1) 0 u ≡ x
+    → lastIn o left t ≡ x
 unfolding lastIn
-last-begun o zero t u b x h k y e = absurd (h refl)
-last-begun o (suc left) t u b x h k y e = rw (k, y) (simp sub-one at e)
-
-pub last-refused : (o : Op) (left : ℕ) (t u : List ℕ) (b : Bool) → (left ≡ 0 → ⊥) → begun o t ≡ (b, u) → b ≡ false → lastIn o left t ≡ Cut
-unfolding lastIn
-last-refused o zero t u b h k y = absurd (h refl)
-last-refused o (suc left) t u b h k y = rw (k, y) refl
+last-begun o zero t u x h k e = absurd (h refl)
+last-begun o (suc left) t u x h k e = rw k (simp sub-one at e)

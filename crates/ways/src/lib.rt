@@ -3,10 +3,8 @@ ghost use mathlib.Core.Path.{_≡_};
 ghost use mathlib.Core.Bool.{true};
 ghost use Prim.Native.Nat.{_+_, _-_, _*_, _≤_, _<_};
 ghost use lib.ListN.{length};
-ghost use Rattle.answers.specs.Said.{doneSays};
-ghost use Rattle.ways.specs.Schedules.{accepts, opIn, begun};
+ghost use Rattle.ways.specs.Schedules.{opIn, begun};
 ghost use Rattle.ways.specs.Forced.{stretched, goneOn, endIn, lastIn, TableOf, Open};
-use answers::Done;
 use answers::Ran;
 use answers::Stepped;
 use words::Level;
@@ -42,41 +40,6 @@ pub fn op_in(ops: &[u16], i: usize) -> Op
     }
 }
 
-fn is_done(a: Done) -> bool
-    ensures { λ r. ⌜ r ≡ accepts (doneSays a) ⌝ }
-{
-    match a {
-        Done::Yes => true,
-        Done::Refused(_) => false,
-    }
-}
-
-// Begins the operation on a table that was measured, if it would be accepted.
-pub fn begin_sized(t: &mut [u16], s: Sizes, o: Op) -> bool
-    requires { ⌜ TableOf s (now t) ⌝ }
-    ensures { λ r. ⌜ (begun o (now (t .entry)) ≡ (r, now (t .exit))) × TableOf s (now (t .exit)) ⌝ }
-{
-    if o.op == 1 {
-        return is_done(begins::enqueue_sized(t, s, o.level, o.queue, o.node));
-    }
-    if o.op == 2 {
-        if o.node.0 == 0 {
-            return is_done(begins::dequeue_sized(t, s, o.level, o.queue));
-        }
-    }
-    false
-}
-
-// Begins the operation, if it would be accepted.
-pub fn take_begin(t: &mut [u16], o: Op) -> bool
-    ensures { λ r. ⌜ begun o (now (t .entry)) ≡ (r, now (t .exit)) ⌝ }
-{
-    match words::measure(t) {
-        Measured::Sized(s) => begin_sized(t, s, o),
-        Measured::Unfit => false,
-    }
-}
-
 // Whether the operation would be accepted.
 fn may_begin(t: &[u16], s: Sizes, o: Op) -> bool
     requires { ⌜ TableOf s (now t) ⌝ }
@@ -91,6 +54,41 @@ fn may_begin(t: &[u16], s: Sizes, o: Op) -> bool
         }
     }
     false
+}
+
+// Begins the operation, which is accepted, on a table that was measured.
+fn put_begin(t: &mut [u16], s: Sizes, o: Op)
+    requires { ⌜ TableOf s (now t) × (begun o (now t) .0 ≡ true) ⌝ }
+    ensures { λ _. ⌜ (begun o (now (t .entry)) ≡ (true, now (t .exit))) × TableOf s (now (t .exit)) ⌝ }
+{
+    if o.op == 1 {
+        begins::put_enqueue(t, s, o.level, o.queue, o.node);
+    } else {
+        begins::put_dequeue(t, s, o.level, o.queue);
+    }
+}
+
+// Begins the operation on a table that was measured, if it would be accepted.
+pub fn begin_sized(t: &mut [u16], s: Sizes, o: Op) -> bool
+    requires { ⌜ TableOf s (now t) ⌝ }
+    ensures { λ r. ⌜ (begun o (now (t .entry)) ≡ (r, now (t .exit))) × TableOf s (now (t .exit)) ⌝ }
+{
+    if may_begin(t, s, o) {
+        put_begin(t, s, o);
+        true
+    } else {
+        false
+    }
+}
+
+// Begins the operation, if it would be accepted.
+pub fn take_begin(t: &mut [u16], o: Op) -> bool
+    ensures { λ r. ⌜ begun o (now (t .entry)) ≡ (r, now (t .exit)) ⌝ }
+{
+    match words::measure(t) {
+        Measured::Sized(s) => begin_sized(t, s, o),
+        Measured::Unfit => false,
+    }
 }
 
 // Takes steps while the operation is refused, so that nothing is to be chosen: it stays refused until an operation ends. Answers what is
@@ -169,18 +167,15 @@ pub fn copy_words(from: &[u16], to: &mut [u16])
     }
 }
 
-// The last operation begins on a copy of the table: the steps that follow it.
+// The last operation, which is accepted, begins on a copy of the table: the steps that follow it.
 pub fn try_last(t: &[u16], s: Sizes, copy: &mut [u16], o: Op, left: u16) -> Tail
-    requires { ⌜ (length (now copy) ≡ length (now t)) × TableOf s (now t) ⌝ }
+    requires { ⌜ (length (now copy) ≡ length (now t)) × TableOf s (now t) × (begun o (now t) .0 ≡ true) ⌝ }
     ensures { λ r. ⌜ lastIn o left (now (t .entry)) ≡ r ⌝ }
 {
     if left == 0 {
         return Tail::Cut;
     }
     copy_words(t, copy);
-    if begin_sized(copy, s, o) {
-        steps_left(copy, s, left - 1)
-    } else {
-        Tail::Cut
-    }
+    put_begin(copy, s, o);
+    steps_left(copy, s, left - 1)
 }

@@ -173,7 +173,8 @@ explore-begin-op-in-requires t c κs = search needs
 explore-begin-begin-sized-requires : (t : ℕ)
     → explore-begin-lts.Need-begin-sized-requires (begin-calls t) (explore-begin-at t) explore-begin.Post
 explore-begin-begin-sized-requires t c κs =
-    let pre-1-1-0 = c .before .before .before .before .before .before .before .before .before .pre .1 .1 .0 in
+    let c10 = c .before .before .before .before .before .before .before .before .before .before in
+    let pre-1-1-0 = c10 .pre .1 .1 .0 in
     pre-1-1-0
 
 -- src/lib.rt:398:9
@@ -199,10 +200,10 @@ explore-begin-emit-tail-requires : (t : ℕ)
 explore-begin-emit-tail-requires t c κs =
     let c10 = c .before .before .before .before .before .before .before .before .before .before in
     let c20 = c10 .before .before .before .before .before .before .before .before .before .before in
-    let pre-1-0 = c20 .before .pre .1 .0 in
-    let args-asked = c20 .before .args .asked in
-    let pre-1-1-1 = c20 .before .pre .1 .1 .1 in
-    let pre-1-1-0 = c20 .before .pre .1 .1 .0 in
+    let pre-1-0 = c20 .before .before .pre .1 .0 in
+    let args-asked = c20 .before .before .args .asked in
+    let pre-1-1-1 = c20 .before .before .pre .1 .1 .1 in
+    let pre-1-1-0 = c20 .before .before .pre .1 .1 .0 in
     (omega (arith, pre-1-0), copied args-asked _ _ (rw pre-1-1-1 at pre-1-1-0) (omega (arith, pre-1-0)))
 
 -- src/lib.rt:401:13
@@ -226,17 +227,17 @@ explore-begin-returns-3 : (t : ℕ) → explore-begin-lts.Need-returns-3 (begin-
 explore-begin-returns-3 t c =
     let c10 = c .before .before .before .before .before .before .before .before .before .before in
     let c20 = c10 .before .before .before .before .before .before .before .before .before .before in
-    let if1-no = c20 .before .before .if1 .left in
+    let if1-no = c20 .before .before .before .if1 .left in
     let if4-yes = c10 .before .before .before .before .if4 .taken in
     let op-in-says = c10 .before .before .before .before .before .before .before .before .before .op-in .ensures in
     let if3-yes = c10 .before .before .before .before .before .if3 .taken in
     let begin-sized-says-0 = c10 .before .before .before .before .before .before .before .before .begin-sized .ensures .0 in
-    let args-path = c20 .before .before .before .before .before .before .before .before .args .path in
-    let args-i = c20 .before .before .before .before .before .before .before .before .args .i in
-    let args-n = c20 .before .before .before .before .before .before .before .before .args .n in
-    let args-asked-operations = c20 .before .before .before .before .before .before .before .before .args .asked .operations in
-    let pre-1-0 = c20 .before .before .before .before .before .before .before .before .pre .1 .0 in
-    let start = c20 .before .before .before .before .before .before .before .before in
+    let args-path = c20 .before .before .before .before .before .before .before .before .before .args .path in
+    let args-i = c20 .before .before .before .before .before .before .before .before .before .args .i in
+    let args-n = c20 .before .before .before .before .before .before .before .before .before .args .n in
+    let args-asked-operations = c20 .before .before .before .before .before .before .before .before .before .args .asked .operations in
+    let pre-1-0 = c20 .before .before .before .before .before .before .before .before .before .pre .1 .0 in
+    let start = c20 .before .before .before .before .before .before .before .before .before in
     let steps-no-says = c10 .before .before .steps-left .ensures in
     let emit-tail-says = c .before .before .before .before .before .before .emit-tail .ensures in
     begin-last _ _ _ _ _ _ _ _ _ _ _ _ _ _ _ if1-no if4-yes op-in-says if3-yes begin-sized-says-0
@@ -274,16 +275,16 @@ explore-begin-returns-4 : (t : ℕ) → explore-begin-lts.Need-returns-4 (begin-
 explore-begin-returns-4 t c =
     let c10 = c .before .before .before .before .before .before .before .before .before .before in
     let c20 = c10 .before .before .before .before .before .before .before .before .before .before in
-    let if1-no = c10 .before .before .before .before .if1 .left in
-    let pre-1-0-1 = c20 .pre .1 .0 .1 in
+    let if1-no = c10 .before .before .before .before .before .if1 .left in
+    let pre-1-0-1 = c20 .before .pre .1 .0 .1 in
     let if4-no = c .before .before .before .before .before .before .if4 .left in
     let op-in-says = c10 .before .op-in .ensures in
     let if3-yes = c .before .before .before .before .before .before .before .if3 .taken in
     let begin-sized-says-0 = c10 .begin-sized .ensures .0 in
-    let args-path = c20 .args .path in
-    let args-i = c20 .args .i in
-    let args-n = c20 .args .n in
-    let start = c20 in
+    let args-path = c20 .before .args .path in
+    let args-i = c20 .before .args .i in
+    let args-n = c20 .before .args .n in
+    let start = c20 .before in
     let op-in2-says = c .before .before .before .before .op-in2 .ensures in
     let stretch-says-0 = c .before .before .before .stretch .ensures .0 in
     let if5-yes = c .if5 .taken in
@@ -307,15 +308,15 @@ explore-begin-explore-saved-requires t c κs =
     let op-in2-says = c .before .before .before .before .before .before .before .before .op-in2 .ensures in
     let stretch-says-1-2 = c .before .before .before .before .before .before .before .stretch .ensures .1 .2 in
     let if5-no = c .before .before .before .before .if5 .left in
-    let pre-0 = c20 .before .before .before .before .pre .0 in
-    let pre-1-0 = c20 .before .before .before .before .pre .1 .0 in
+    let pre-0 = c20 .before .before .before .before .before .pre .0 in
+    let pre-1-0 = c20 .before .before .before .before .before .pre .1 .0 in
     let begin-sized-kept-0 = c10 .before .before .before .before .begin-sized .kept .0 in
     let stretch-kept-0 = c .before .before .before .before .before .before .before .stretch .kept .0 in
     let stretch-says-1-0 = c .before .before .before .before .before .before .before .stretch .ensures .1 .0 in
-    let if1-no = c10 .before .before .before .before .before .before .before .before .if1 .left in
+    let if1-no = c10 .before .before .before .before .before .before .before .before .before .if1 .left in
     let if4-no = c10 .if4 .left in
     let stretch-says-1-1 = c .before .before .before .before .before .before .before .stretch .ensures .1 .1 in
-    let pre-1-1-1 = c20 .before .before .before .before .pre .1 .1 .1 in
+    let pre-1-1-1 = c20 .before .before .before .before .before .pre .1 .1 .1 in
     let accepted = rw op-in2-says at (stretch-says-1-2 (omega (arith, if5-no))) in (
       omega (arith, pre-0, pre-1-0, begin-sized-kept-0, stretch-kept-0, stretch-says-1-0, if1-no, if4-no, if5-no),
       (
@@ -331,17 +332,17 @@ explore-begin-explore-begin-requires t c κs =
     let c10 = c .before .before .before .before .before .before .before .before .before .before in
     let c20 = c10 .before .before .before .before .before .before .before .before .before .before in
     let c30 = c20 .before .before .before .before .before .before .before .before .before .before in
-    let pre-0 = c30 .before .before .before .before .before .pre .0 in
-    let pre-1-0 = c30 .before .before .before .before .before .pre .1 .0 in
+    let pre-0 = c30 .before .before .before .before .before .before .pre .0 in
+    let pre-1-0 = c30 .before .before .before .before .before .before .pre .1 .0 in
     let begin-sized-kept-0 = c20 .before .before .before .before .before .begin-sized .kept .0 in
     let stretch-kept-0 = c10 .before .before .before .before .before .before .before .before .stretch .kept .0 in
     let stretch-says-1-0 = c10 .before .before .before .before .before .before .before .before .stretch .ensures .1 .0 in
-    let if1-no = c20 .before .before .before .before .before .before .before .before .before .if1 .left in
+    let if1-no = c30 .if1 .left in
     let if4-no = c20 .before .if4 .left in
     let if5-no = c10 .before .before .before .before .before .if5 .left in
     let explore-saved-kept-1 = c10 .explore-saved .kept .1 in
     let stretch-says-1-1 = c10 .before .before .before .before .before .before .before .before .stretch .ensures .1 .1 in
-    let pre-1-1-1 = c30 .before .before .before .before .before .pre .1 .1 .1 in (
+    let pre-1-1-1 = c30 .before .before .before .before .before .before .pre .1 .1 .1 in (
       omega (arith, pre-0, pre-1-0, begin-sized-kept-0, stretch-kept-0, stretch-says-1-0, if1-no, if4-no, if5-no, explore-saved-kept-1),
       (
         omega (
@@ -390,16 +391,16 @@ explore-begin-returns-5 t c =
     let c20 = c10 .before .before .before .before .before .before .before .before .before .before in
     let c30 = c20 .before .before .before .before .before .before .before .before .before .before in
     let c40 = c30 .before .before .before .before .before .before .before .before .before .before in
-    let if1-no = c30 .before .before .before .before .before .before .before .before .if1 .left in
-    let pre-1-0-1 = c40 .before .before .before .before .pre .1 .0 .1 in
+    let if1-no = c30 .before .before .before .before .before .before .before .before .before .if1 .left in
+    let pre-1-0-1 = c40 .before .before .before .before .before .pre .1 .0 .1 in
     let if4-no = c30 .if4 .left in
     let op-in-says = c30 .before .before .before .before .before .op-in .ensures in
     let if3-yes = c30 .before .if3 .taken in
     let begin-sized-says-0 = c30 .before .before .before .before .begin-sized .ensures .0 in
-    let args-path = c40 .before .before .before .before .args .path in
-    let args-i = c40 .before .before .before .before .args .i in
-    let args-n = c40 .before .before .before .before .args .n in
-    let start = c40 .before .before .before .before in
+    let args-path = c40 .before .before .before .before .before .args .path in
+    let args-i = c40 .before .before .before .before .before .args .i in
+    let args-n = c40 .before .before .before .before .before .args .n in
+    let start = c40 .before .before .before .before .before in
     let op-in2-says = c20 .before .before .before .before .before .before .before .before .op-in2 .ensures in
     let stretch-says-0 = c20 .before .before .before .before .before .before .before .stretch .ensures .0 in
     let stretch-says-1-0 = c20 .before .before .before .before .before .before .before .stretch .ensures .1 .0 in
@@ -417,7 +418,7 @@ explore-begin-same-length-10 t c = search needs
 explore-begin-returns-6 : (t : ℕ) → explore-begin-lts.Need-returns-6 (begin-calls t) (explore-begin-at t) explore-begin.Post
 explore-begin-returns-6 t c =
     let c10 = c .before .before .before .before .before .before .before .before .before .before in
-    let pre-1-0-1 = c10 .before .before .before .pre .1 .0 .1 in
+    let pre-1-0-1 = c10 .before .before .before .before .pre .1 .0 .1 in
     let op-in-says = c .before .before .before .before .op-in .ensures in
     let if3-no = c .if3 .left in
     let begin-sized-says-0 = c .before .before .before .begin-sized .ensures .0 in
@@ -573,9 +574,9 @@ explore-step-op-in-requires t c κs = search needs
 -- src/lib.rt:214:9
 explore-step-go-on-requires : (t : ℕ) → explore-step-lts.Need-go-on-requires (step-calls t) (explore-step-at t) explore-step.Post
 explore-step-go-on-requires t c κs =
-    let pre-1-1-0 = c .before .before .before .before .before .before .before .before .pre .1 .1 .0 in
+    let pre-1-1-0 = c .before .before .before .before .before .before .before .before .before .pre .1 .1 .0 in
     let op-in-says = c .before .op-in .ensures in
-    let pre-1-1-2 = c .before .before .before .before .before .before .before .before .pre .1 .1 .2 in
+    let pre-1-1-2 = c .before .before .before .before .before .before .before .before .before .pre .1 .1 .2 in
     (pre-1-1-0, rw op-in-says pre-1-1-2)
 
 -- src/lib.rt:216:9
@@ -586,7 +587,7 @@ explore-step-same-length t c = search needs
 explore-step-returns-2 : (t : ℕ) → explore-step-lts.Need-returns-2 (step-calls t) (explore-step-at t) explore-step.Post
 explore-step-returns-2 t c =
     let c10 = c .before .before .before .before .before .before .before .before .before .before in
-    let pre-1-0-1 = c10 .before .before .pre .1 .0 .1 in
+    let pre-1-0-1 = c10 .before .before .before .pre .1 .0 .1 in
     let op-in-says = c .before .before .before .before .before .op-in .ensures in
     let go-on-says-0 = c .before .before .before .go-on .ensures .0 in
     let if2-yes = c .if2 .taken in
@@ -612,10 +613,12 @@ explore-step-array-write-p t c = search needs
 explore-step-try-last-requires : (t : ℕ) → explore-step-lts.Need-try-last-requires (step-calls t) (explore-step-at t) explore-step.Post
 explore-step-try-last-requires t c κs =
     let c10 = c .before .before .before .before .before .before .before .before .before .before in
-    let pre-1-0 = c10 .before .before .before .before .before .pre .1 .0 in
+    let pre-1-0 = c10 .before .before .before .before .before .before .pre .1 .0 in
     let go-on-kept-0 = c .before .before .before .before .before .before .go-on .kept .0 in
     let go-on-says-1-1 = c .before .before .before .before .before .before .go-on .ensures .1 .1 in
-    (omega (arith, pre-1-0, go-on-kept-0), go-on-says-1-1)
+    let go-on-says-1-2 = c .before .before .before .before .before .before .go-on .ensures .1 .2 in
+    let if2-no = c .before .before .before .if2 .left in
+    (omega (arith, pre-1-0, go-on-kept-0), go-on-says-1-1, go-on-says-1-2 (omega (arith, if2-no)))
 
 -- src/lib.rt:223:13
 explore-step-explore-step-requires : (t : ℕ)
@@ -626,13 +629,13 @@ explore-step-explore-step-requires t c κs =
     let op-in-says = c10 .before .before .before .before .before .op-in .ensures in
     let go-on-says-1-2 = c10 .before .before .before .go-on .ensures .1 .2 in
     let if2-no = c10 .if2 .left in
-    let pre-0 = c20 .before .before .pre .0 in
-    let pre-1-0 = c20 .before .before .pre .1 .0 in
+    let pre-0 = c20 .before .before .before .pre .0 in
+    let pre-1-0 = c20 .before .before .before .pre .1 .0 in
     let go-on-kept-0 = c10 .before .before .before .go-on .kept .0 in
     let go-on-says-1-0 = c10 .before .before .before .go-on .ensures .1 .0 in
     let try-last-kept-1 = c .before .before .before .before .before .before .try-last .kept .1 in
     let go-on-says-1-1 = c10 .before .before .before .go-on .ensures .1 .1 in
-    let pre-1-1-1 = c20 .before .before .pre .1 .1 .1 in
+    let pre-1-1-1 = c20 .before .before .before .pre .1 .1 .1 in
     let accepted = rw op-in-says at (go-on-says-1-2 (omega (arith, if2-no))) in (
       omega (arith, pre-0, pre-1-0, go-on-kept-0, go-on-says-1-0, if2-no, try-last-kept-1),
       (omega (arith, pre-0, pre-1-0, go-on-kept-0, go-on-says-1-0, if2-no, try-last-kept-1), (go-on-says-1-1, pre-1-1-1, accepted)),
@@ -645,10 +648,10 @@ explore-step-emit-tail-requires t c κs =
     let c10 = c .before .before .before .before .before .before .before .before .before .before in
     let c20 = c10 .before .before .before .before .before .before .before .before .before .before in
     let c30 = c20 .before .before .before .before .before .before .before .before .before .before in
-    let pre-1-0 = c30 .before .before .before .before .pre .1 .0 in
-    let args-asked = c30 .before .before .before .before .args .asked in
-    let pre-1-1-1 = c30 .before .before .before .before .pre .1 .1 .1 in
-    let pre-1-1-0 = c30 .before .before .before .before .pre .1 .1 .0 in
+    let pre-1-0 = c30 .before .before .before .before .before .pre .1 .0 in
+    let args-asked = c30 .before .before .before .before .before .args .asked in
+    let pre-1-1-1 = c30 .before .before .before .before .before .pre .1 .1 .1 in
+    let pre-1-1-0 = c30 .before .before .before .before .before .pre .1 .1 .0 in
     let explore-step-kept-1 = c10 .before .explore-step .kept .1 in
     let try-last-kept-1 = c10 .before .before .before .before .before .before .before .before .try-last .kept .1 in (
       omega (arith, pre-1-0),
@@ -693,11 +696,11 @@ explore-step-returns-3 t c =
     let op-in-says = c30 .before .before .before .before .op-in .ensures in
     let go-on-says-0 = c30 .before .before .go-on .ensures .0 in
     let try-last-says = c20 .before .before .before .before .before .try-last .ensures in
-    let args-path = c40 .before .args .path in
-    let args-i = c40 .before .args .i in
-    let args-asked-operations = c40 .before .args .asked .operations in
-    let pre-1-0 = c40 .before .pre .1 .0 in
-    let start = c40 .before in
+    let args-path = c40 .before .before .args .path in
+    let args-i = c40 .before .before .args .i in
+    let args-asked-operations = c40 .before .before .args .asked .operations in
+    let pre-1-0 = c40 .before .before .pre .1 .0 in
+    let start = c40 .before .before in
     let explore-step-says = c10 .before .before .before .before .before .before .before .before .explore-step .ensures in
     let emit-tail-says = c .before .before .before .before .before .before .emit-tail .ensures in
     step-last _ _ _ _ _ _ _ _ _ _ _ _ _ _ _ _ _ if3-yes op-in-says go-on-says-0 refl try-last-says (last-path args-path args-i _
@@ -712,12 +715,12 @@ explore-step-explore-saved-requires t c κs =
     let op-in-says = c10 .op-in .ensures in
     let go-on-says-1-2 = c .before .before .before .before .before .before .before .before .go-on .ensures .1 .2 in
     let if2-no = c .before .before .before .before .before .if2 .left in
-    let pre-0 = c10 .before .before .before .before .before .before .before .pre .0 in
-    let pre-1-0 = c10 .before .before .before .before .before .before .before .pre .1 .0 in
+    let pre-0 = c10 .before .before .before .before .before .before .before .before .pre .0 in
+    let pre-1-0 = c10 .before .before .before .before .before .before .before .before .pre .1 .0 in
     let go-on-kept-0 = c .before .before .before .before .before .before .before .before .go-on .kept .0 in
     let go-on-says-1-0 = c .before .before .before .before .before .before .before .before .go-on .ensures .1 .0 in
     let go-on-says-1-1 = c .before .before .before .before .before .before .before .before .go-on .ensures .1 .1 in
-    let pre-1-1-1 = c10 .before .before .before .before .before .before .before .pre .1 .1 .1 in
+    let pre-1-1-1 = c10 .before .before .before .before .before .before .before .before .pre .1 .1 .1 in
     let accepted = rw op-in-says at (go-on-says-1-2 (omega (arith, if2-no))) in (
       omega (arith, pre-0, pre-1-0, go-on-kept-0, go-on-says-1-0, if2-no),
       (omega (arith, pre-0, pre-1-0, go-on-kept-0, go-on-says-1-0, if2-no), (go-on-says-1-1, pre-1-1-1, accepted)),
@@ -729,14 +732,14 @@ explore-step-explore-begin-requires : (t : ℕ)
 explore-step-explore-begin-requires t c κs =
     let c10 = c .before .before .before .before .before .before .before .before .before .before in
     let c20 = c10 .before .before .before .before .before .before .before .before .before .before in
-    let pre-0 = c20 .before .before .before .before .before .before .before .before .pre .0 in
-    let pre-1-0 = c20 .before .before .before .before .before .before .before .before .pre .1 .0 in
+    let pre-0 = c20 .before .before .before .before .before .before .before .before .before .pre .0 in
+    let pre-1-0 = c20 .before .before .before .before .before .before .before .before .before .pre .1 .0 in
     let go-on-kept-0 = c10 .before .before .before .before .before .before .before .before .before .go-on .kept .0 in
     let go-on-says-1-0 = c10 .before .before .before .before .before .before .before .before .before .go-on .ensures .1 .0 in
     let if2-no = c10 .before .before .before .before .before .before .if2 .left in
     let explore-saved-kept-1 = c10 .explore-saved .kept .1 in
     let go-on-says-1-1 = c10 .before .before .before .before .before .before .before .before .before .go-on .ensures .1 .1 in
-    let pre-1-1-1 = c20 .before .before .before .before .before .before .before .before .pre .1 .1 .1 in (
+    let pre-1-1-1 = c20 .before .before .before .before .before .before .before .before .before .pre .1 .1 .1 in (
       omega (arith, pre-0, pre-1-0, go-on-kept-0, go-on-says-1-0, if2-no, explore-saved-kept-1),
       (omega (arith, pre-0, pre-1-0, go-on-kept-0, go-on-says-1-0, if2-no, explore-saved-kept-1), (go-on-says-1-1, pre-1-1-1)),
     )
@@ -768,7 +771,7 @@ explore-step-returns-4 t c =
     let c10 = c .before .before .before .before .before .before .before .before .before .before in
     let c20 = c10 .before .before .before .before .before .before .before .before .before .before in
     let c30 = c20 .before .before .before .before .before .before .before .before .before .before in
-    let pre-1-0-1 = c30 .before .before .before .before .before .before .before .pre .1 .0 .1 in
+    let pre-1-0-1 = c30 .before .before .before .before .before .before .before .before .pre .1 .0 .1 in
     let op-in-says = c30 .op-in .ensures in
     let go-on-says-0 = c20 .before .before .before .before .before .before .before .before .go-on .ensures .0 in
     let explore-saved-says = c10 .before .before .before .before .before .before .before .before .before .explore-saved .ensures in

@@ -1,4 +1,5 @@
-use Rattle.search.specs.Emits.{emit-closed, emit-bound, counted-so, tallied-so, measured-so, written-so}
+use Rattle.search.specs.Laws.{emit-closed}
+use Rattle.search.specs.Emits.{emit-bound, counted-so, tallied-so, measured-so, written-so}
 use borrow.Author.Needs.{needs}
 use Rattle.search.proofs.emit.Statement.{statement}
 use Rattle.search.proofs.emit.Tie as tie
@@ -81,7 +82,7 @@ returns-4 c =
     let if1-no = c10 .before .before .before .if1 .left in
     let if2-no = c10 .if2 .left in
     let enum-told2-known-1 = c .before .before .before .before .before .before .before .before .enum-told2 .given .1 in
-    let pre = c10 .before .before .before .before .before .before .before .before .pre in
+    let pre = c10 .before .before .before .before .before .before .before .before .before .pre in
     let tally-says = c .before .before .before .before .before .tally .ensures
     (record { sized = pre .1 .0; table = pre .1 .1; few = pre .0 .0; whole = pre .0 .1 }) in
     tallied-so _ _ _ _ _ _ _ if1-no if2-no _ enum-told2-known-1 (c .one-more2 .ensures) tally-says

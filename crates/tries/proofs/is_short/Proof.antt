@@ -52,9 +52,10 @@ same-length-3 c = search needs
 returns-2 : tie.Need-returns-2
 returns-2 c =
     let c10 = c .before .before .before .before .before .before .before .before .before .before in
-    let arg-asked = c10 .before .before .before .before .before .before .before .before .before .args .asked in
-    let asking-says = c10 .asking .ensures in
-    let list-all-says = c .before .before .before .before .before .before .before .list-all .ensures in
+    let c20 = c10 .before .before .before .before .before .before .before .before .before .before in
+    let arg-asked = c20 .args .asked in
+    let asking-says = c10 .before .asking .ensures in
+    let list-all-says = c .before .before .before .before .before .before .before .before .list-all .ensures in
     let measured = rw asking-says at list-all-says in
     (measured-short arg-asked _ _ _ _ _ _ measured, unwritten arg-asked _ _ _ _ _ _ measured)
 

@@ -1,6 +1,7 @@
 use native.Mathlib.Omega.{arith}
 use mathlib.Core.Path.{sym, _∙_}
 use mathlib.Core.Bool.{true, false}
+use borrow.Author.Tests.{eq-eqb, ne-eqb}
 use Rattle.tries.specs.Listed.{refused-so, count-low, written-so}
 use borrow.Author.Needs.{needs}
 use Rattle.tries.proofs.list_texts.Statement.{statement}
@@ -93,13 +94,14 @@ returns-2 c =
     let c10 = c .before .before .before .before .before .before .before .before .before .before in
     let c20 = c10 .before .before .before .before .before .before .before .before .before .before in
     let c30 = c20 .before .before .before .before .before .before .before .before .before .before in
-    let arg-asked = c30 .args .asked in
-    let is-short-says-0 = c20 .before .before .is-short .ensures .0 in
-    let is-short-says-1 = c20 .before .before .is-short .ensures .1 in
-    let if1-no = c10 .before .before .before .before .before .if1 .left in
-    let asking-says = c10 .before .before .asking .ensures in
-    let list-all-says = c .before .before .before .before .before .before .before .before .before .list-all .ensures in
-    written-so arg-asked _ _ _ _ _ _ (sym is-short-says-0 ∙ if1-no) (rw (asking-says, is-short-says-1) at list-all-says) true (c .if2 .taken)
+    let arg-asked = c30 .before .args .asked in
+    let is-short-says-0 = c20 .before .before .before .is-short .ensures .0 in
+    let is-short-says-1 = c20 .before .before .before .is-short .ensures .1 in
+    let if1-no = c10 .before .before .before .before .before .before .if1 .left in
+    let asking-says = c10 .before .before .before .asking .ensures in
+    let list-all-says = c10 .list-all .ensures in
+    written-so arg-asked _ _ _ _ _ _ (sym is-short-says-0 ∙ if1-no) (rw (asking-says, is-short-says-1) at list-all-says) false
+    (ne-eqb _ 0 (c .if2 .taken))
 
 -- src/lib.rt:135:1
 same-length-7 : tie.Need-same-length-7
@@ -119,13 +121,14 @@ returns-3 c =
     let c10 = c .before .before .before .before .before .before .before .before .before .before in
     let c20 = c10 .before .before .before .before .before .before .before .before .before .before in
     let c30 = c20 .before .before .before .before .before .before .before .before .before .before in
-    let arg-asked = c30 .args .asked in
-    let is-short-says-0 = c20 .before .before .is-short .ensures .0 in
-    let is-short-says-1 = c20 .before .before .is-short .ensures .1 in
-    let if1-no = c10 .before .before .before .before .before .if1 .left in
-    let asking-says = c10 .before .before .asking .ensures in
-    let list-all-says = c .before .before .before .before .before .before .before .before .before .list-all .ensures in
-    written-so arg-asked _ _ _ _ _ _ (sym is-short-says-0 ∙ if1-no) (rw (asking-says, is-short-says-1) at list-all-says) false (c .if2 .left)
+    let arg-asked = c30 .before .args .asked in
+    let is-short-says-0 = c20 .before .before .before .is-short .ensures .0 in
+    let is-short-says-1 = c20 .before .before .before .is-short .ensures .1 in
+    let if1-no = c10 .before .before .before .before .before .before .if1 .left in
+    let asking-says = c10 .before .before .before .asking .ensures in
+    let list-all-says = c10 .list-all .ensures in
+    written-so arg-asked _ _ _ _ _ _ (sym is-short-says-0 ∙ if1-no) (rw (asking-says, is-short-says-1) at list-all-says) true
+    (eq-eqb _ 0 (c .if2 .left))
 
 pub list-texts-spec : {M : Type 1} → statement M
 list-texts-spec =
