@@ -1,11 +1,8 @@
 // Beginning an enqueue or a dequeue.
 ghost use mathlib.Core.Path.{_≡_};
-ghost use Prim.Native.Nat.{_<_};
-ghost use Rattle.words.specs.Layout.{node};
 ghost use Rattle.words.specs.Inner.{Fits};
 ghost use Rattle.answers.specs.Said.{says, doneSays};
-ghost use Rattle.table.specs.Points.{E1, D1};
-ghost use Rattle.begins.specs.Begin.{begun, begunAt, enqueueWhy, enqueueSized, enqueueOf, dequeueWhy, dequeueSized, dequeueOf};
+ghost use Rattle.begins.specs.Begin.{begunAt, enqueueWhy, enqueueSized, enqueueOf, dequeueWhy, dequeueSized, dequeueOf};
 use answers::Done;
 use table::Point;
 use words::Frame;

@@ -16,7 +16,7 @@ use Rattle.words.specs.declared.Word.the-variants as word
 use Rattle.words.specs.Layout.{level, has, rd, wr}
 use Rattle.table.specs.Points as point
 use Rattle.table.specs.Points.{Point, pointOf}
-use Rattle.table.specs.Frames.{frame, counted, ifEq, belowKTo, belowMTo, walkTo}
+use Rattle.table.specs.Frames.{counted, ifEq, belowKTo, belowMTo, walkTo}
 use Rattle.table.specs.Table.{loads, stores, frees, nothing, row}
 use Rattle.table.specs.Turn.{turned}
 use Rattle.table.specs.Laws.{if-of}
@@ -25,15 +25,7 @@ use Rattle.table.specs.declared.After.the-variants.{Go, Done}
 use Rattle.table.specs.declared.Turned.{Turned}
 use Rattle.table.specs.declared.Turned.the-variants.{Next, Stray}
 use Rattle.steps.specs.Step.{strays, sound}
-use Rattle.steps.specs.Held.{followed, turnOf, held}
-
-abbrev pub setSteps : ℕ → Frame → Frame
-setSteps v f = frame (f .op) (f .point) (f .queue) (f .node) (f .k) (f .p) (f .c) (f .a) (f .r) (f .m) v
-
--- the steps word after n steps more, each counted as in a step; 65,535 stays
-unfoldable pub later : ℕ → ℕ → ℕ
-later a zero = a
-later a (suc n) = cond (ltb (later a n) 65535) (later a n + 1) (later a n)
+use Rattle.steps.specs.Held.{followed, turnOf, held, setSteps, later}
 
 pub later-fits : (a n : ℕ) → a + n ≤ 65535 → later a n ≡ a + n
 unfolding later

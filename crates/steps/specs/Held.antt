@@ -1,7 +1,8 @@
 -- A step of the served frame, held beside the table: what it does there, and the step that it is once the frame is put back.
-use Prim.Native.Nat.{ℕ}
+use Prim.Native.Nat.{ℕ, zero, suc, _+_}
 use mathlib.Core.List.{List}
 use mathlib.Core.Bool.{cond}
+use lib.Dec.{ltb}
 use Rattle.words.specs.declared.Level.{Level}
 use Rattle.words.specs.declared.Sizes.{Sizes}
 use Rattle.words.specs.declared.Frame.{Frame}
@@ -9,6 +10,7 @@ use Rattle.words.specs.Layout.{level, putFrame, noFrame}
 use Rattle.answers.specs.declared.End.{End}
 use Rattle.answers.specs.Said.{Said, refused, says, Step, going-on, ended, Run, after, an-end, spent, nothing-runs, refusal-10}
 use Rattle.table.specs.Points.{pointOf}
+use Rattle.table.specs.Frames.{frame}
 use Rattle.table.specs.Table.{row}
 use Rattle.table.specs.Turn.{turned}
 use Rattle.table.specs.declared.After.the-variants.{Go, Done}
@@ -51,3 +53,13 @@ stepOfRun (says (after n (an-end e))) = says (ended e)
 stepOfRun (says (after n spent)) = says going-on
 stepOfRun (says (after n nothing-runs)) = refused 9
 stepOfRun (says (after n refusal-10)) = refused 10
+
+-- ---- a frame whose steps are counted at the end of a run
+
+abbrev pub setSteps : ℕ → Frame → Frame
+setSteps v f = frame (f .op) (f .point) (f .queue) (f .node) (f .k) (f .p) (f .c) (f .a) (f .r) (f .m) v
+
+-- the steps word after n steps more, each counted as in a step; 65,535 stays
+unfoldable pub later : ℕ → ℕ → ℕ
+later a zero = a
+later a (suc n) = cond (ltb (later a n) 65535) (later a n + 1) (later a n)

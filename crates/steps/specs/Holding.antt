@@ -18,10 +18,10 @@ use Rattle.table.specs.declared.Turned.the-variants.{Next, Stray}
 use Rattle.steps.specs.declared.Served.the-variants.{At}
 use Rattle.steps.specs.Step.{serving, sound, endOf}
 use Rattle.steps.specs.Run.{ranOn, runFrom}
-use Rattle.steps.specs.Held.{Held, Damaged, followed, turnOf, held, back}
+use Rattle.steps.specs.Held.{Held, Damaged, followed, turnOf, held, back, setSteps, later}
 use Rattle.steps.specs.Laws.{run-held, serving-below}
 use Rattle.steps.specs.Keeping.{serving-kept}
-use Rattle.steps.specs.Counting.{setSteps, later, turnedWith, turn-held, sound-counted}
+use Rattle.steps.specs.Counting.{turnedWith, turn-held, sound-counted}
 use Rattle.steps.specs.Soundness.{sound-kept}
 
 -- the run from t₀, where the steps word was first, goes on from t with its frame f counted and put back, and serves l

@@ -18,14 +18,32 @@ loop-holds : tie.Need-loop-holds Inv-loop μ-loop
 loop-holds c = (search needs, refl)
 
 returns : tie.Need-returns Inv-loop μ-loop
-returns c = sym ((c .before .before .before .before .loop .inv .1) ∙ serving-hit (c .before .before .before .before .before .before .args .s) (c .before .before .before .before .before .before .args .t .now) (c .before .before .before .before .loop .i) _ (c .before .before .narrow .ensures) (c .before .before .before .loop-test .taken) (λ z. (c .if1 .taken) ((c .before .op-of .ensures) ∙ z)))
+returns c =
+    let start = c .before .before .before .before .before .before .args in
+    let loop = c .before .before .before .before .loop in
+    let runs = c .before .before .before .loop-test .taken in
+    let narrow-says = c .before .before .narrow .ensures in
+    let op-of-says = c .before .op-of .ensures in
+    let if1-yes = c .if1 .taken in
+    sym (loop .inv .1 ∙ serving-hit (start .s) (start .t .now) (loop .i) _ narrow-says runs (λ z. if1-yes (op-of-says ∙ z)))
 
 loop-again : tie.Need-loop-again Inv-loop μ-loop
-loop-again c = (search needs, (c .before .before .before .before .loop .inv .1) ∙ serving-miss (c .before .before .before .before .before .before .args .s) (c .before .before .before .before .before .before .args .t .now) (c .before .before .before .before .loop .i) _ (c .before .before .narrow .ensures) (c .before .before .before .loop-test .taken) (told (c .before .op-of .ensures) (c .if1 .left)) ∙ ap (serving (c .before .before .before .before .before .before .args .s) (c .before .before .before .before .before .before .args .t .now)) (c .before .before .narrow .ensures))
+loop-again c =
+    let start = c .before .before .before .before .before .before .args in
+    let loop = c .before .before .before .before .loop in
+    let runs = c .before .before .before .loop-test .taken in
+    let narrow-says = c .before .before .narrow .ensures in
+    let idle = told (c .before .op-of .ensures) (c .if1 .left) in
+    let missed = serving-miss (start .s) (start .t .now) (loop .i) _ narrow-says runs idle in
+    (search needs, loop .inv .1 ∙ missed ∙ ap (serving (start .s) (start .t .now)) narrow-says)
 
 returns-2 : tie.Need-returns-2 Inv-loop μ-loop
 unfolding serving
-returns-2 c = let z : (c .before .loop .i) ≡ 0 = omega arith in sym ((c .before .loop .inv .1) ∙ ap (serving (c .before .before .before .args .s) (c .before .before .before .args .t .now)) z)
+returns-2 c =
+    let start = c .before .before .before .args in
+    let loop = c .before .loop in
+    let z : loop .i ≡ 0 = omega arith in
+    sym (loop .inv .1 ∙ ap (serving (start .s) (start .t .now)) z)
 
 pub find-served-spec : {M : Type 1} → statement M
 find-served-spec =
