@@ -33,8 +33,10 @@ same-test a b c d f g = by (below? a b)
 width-more : (v w : ℕ) → 0 < v → v * 10 ≤ w → w ≤ v * 10 + 9 → w ≤ 65535 → widthOf w ≡ suc (widthOf v)
 unfolding widthOf
 width-more v w p l h top =
-    simp (le-ltb w 10 (omega arith), same-test w 100 v 10 (λ k. omega arith) (λ k. omega arith), same-test w 1000 v 100 (λ k. omega arith) (λ k. omega arith), same-test w 10000 v 1000 (λ k. omega arith) (λ k. omega arith), lt-ltb v 10000 (omega arith))
-    (by (ltb v 10) (ltb v 100) (ltb v 1000))
+    let two = same-test w 100 v 10 (λ k. omega arith) (λ k. omega arith) in
+    let three = same-test w 1000 v 100 (λ k. omega arith) (λ k. omega arith) in
+    let four = same-test w 10000 v 1000 (λ k. omega arith) (λ k. omega arith) in
+    simp (le-ltb w 10 (omega arith), two, three, four, lt-ltb v 10000 (omega arith)) (by (ltb v 10) (ltb v 100) (ltb v 1000))
   where
     by : (a b c : Bool) → cond a 2 (cond b 3 (cond c 4 5)) ≡ suc (cond a 1 (cond b 2 (cond c 3 4)))
     by true b c = refl
@@ -136,7 +138,10 @@ unfolding restIn goesOn isDigit
 run-more end at v b t d ih =
     let w : widthOf (withDigit v b) ≡ suc (widthOf v) = width-more v (withDigit v b) (d .after) (omega arith) (omega arith) (d .fits) in
     let o : suc (at + widthOf v) ≡ at + widthOf (withDigit v b) = omega arith in
-    rw (digits-more v b d) (rw append-assoc (ih ∙ simp (le-leb 48 b (d .low), le-leb b 57 (d .high), lt-ltb 0 v (d .after), le-leb (withDigit v b) 65535 (d .fits), o)))
+    let low = le-leb 48 b (d .low) in
+    let high = le-leb b 57 (d .high) in
+    let fits = le-leb (withDigit v b) 65535 (d .fits) in
+    rw (digits-more v b d) (rw append-assoc (ih ∙ simp (low, high, lt-ltb 0 v (d .after), fits, o)))
 
 field-run : (k end at n : ℕ) (t : List ℕ) → n ≤ k → n ≤ 65535 → Run end at n t
 field-run zero end at n t h top = run-one end at n t (omega arith)

@@ -50,7 +50,8 @@ fn steps_size(c: u16) -> Size
 // The events of a schedule of k operations, and the bytes of their lines: path[j] steps are taken before operation j, path[k] at the end.
 pub fn events_size(ops: &[u16], path: [u16; 7], k: usize) -> Size
     requires { ⌜ (k ≤ 6) × (4 * k ≤ length (now ops)) ⌝ }
-    ensures { λ r. ⌜ (r .events ≡ length (eventsOf path (opsIn k (now (ops .entry)) 0))) × (r .bytes ≡ length (eventsText (eventsOf path (opsIn k (now (ops .entry)) 0)))) × (r .bytes ≤ 176) ⌝ }
+    ensures { λ r. ⌜ (r .events ≡ length (eventsOf path (opsIn k (now (ops .entry)) 0)))
+        × (r .bytes ≡ length (eventsText (eventsOf path (opsIn k (now (ops .entry)) 0)))) × (r .bytes ≤ 176) ⌝ }
 {
     let mut events: u16 = 0;
     let mut bytes = 0;
