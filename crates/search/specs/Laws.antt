@@ -5,8 +5,8 @@ use mathlib.Core.Bool.{Bool, true, false, cond}
 use mathlib.Core.List.{List, [], _∷_, _++_, append-assoc}
 use native.Mathlib.Omega.{arith}
 use native.Mathlib.Numerals.{add-one, sub-one}
-use lib.ListN.{length, take, set, replicate, length-replicate}
-use lib.Seq.{take-suc-set, length-take-le}
+use lib.ListN.{length, take, set}
+use lib.Seq.{take-suc-set}
 use borrow.Author.Tests.{ne-eqb}
 use Rattle.words.specs.Layout.{agrees}
 use Rattle.words.specs.Laws.{and-true, measured-agrees, measured-fits}
@@ -26,10 +26,6 @@ count-more path i n h = rw add-one (take-suc-set path i n h)
 
 pub last-path : (path : List ℕ) (i n k : ℕ) → k ≡ i + 1 → i < length path → take k (set path i n) ≡ take i path ++ (n ∷ [])
 last-path path i n k e h = ap (λ (j : ℕ). take j (set path i n)) e ∙ count-more path i n h
-
--- a part of the saved words
-pub part-length : (n all : ℕ) → n ≤ all → length (take n (replicate {A = ℕ} all 0)) ≡ n
-part-length n all h = length-take-le n (replicate {A = ℕ} all 0) (omega (arith, h, length-replicate {A = ℕ} all 0))
 
 -- a copy of the table has the words that an outcome's table takes
 pub copied : (a : Asked) (t : List ℕ) (copy : ℕ) → TableOf (sizesOf a) t → copy ≡ length t → Roomy copy a

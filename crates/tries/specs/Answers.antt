@@ -23,7 +23,8 @@ use Rattle.ways.specs.Forced.{endIn, TableOf}
 use Rattle.ways.specs.Calls.{stepped-is}
 use Rattle.search.specs.declared.Asked.{Asked}
 use Rattle.search.specs.Walk.{sizesOf, State, tailed, listing, none, listedOf}
-use Rattle.search.specs.Laws.{listing-append, tail-is, step-stop, part-length}
+use Rattle.search.specs.Laws.{listing-append, tail-is, step-stop}
+use Rattle.words.specs.Copies.{part-length}
 use Rattle.tries.specs.Tries.{sizes, operations, texts, why, Answer, listedIn, triesOf, numberOf, talliedAll, talliesOf}
 
 -- ---- the refusals

@@ -344,10 +344,14 @@ frame-words u ws b h =
       h 10 (omega arith),
     )
 
+-- a frame whose words are those that another table has elsewhere
+pub frame-moved : (t u : List ℕ) (a b : ℕ) → ((i : ℕ) → i < 11 → getD u (b + i) 0 ≡ getD t (a + i) 0) → frameFrom u b ≡ frameFrom t a
+frame-moved t u a b h =
+    frame-words u (drop a t) b (λ i k. h i k ∙ sym (getD-drop a t i 0))
+    ∙ sym (frame-words t (drop a t) a (λ i k. sym (getD-drop a t i 0)))
+
 frame-kept : (t u : List ℕ) (b : ℕ) → ((i : ℕ) → i < 11 → getD u (b + i) 0 ≡ getD t (b + i) 0) → frameFrom u b ≡ frameFrom t b
-frame-kept t u b h =
-    frame-words u (drop b t) b (λ i k. h i k ∙ sym (getD-drop b t i 0))
-    ∙ sym (frame-words t (drop b t) b (λ i k. sym (getD-drop b t i 0)))
+frame-kept t u b h = frame-moved t u b b h
 
 module _ (s : Sizes) (t : List ℕ) (l : Level) where
   -- a frame after a word was written

@@ -1,3 +1,5 @@
 pub mod Layout
 pub mod Inner
 pub mod Laws
+pub mod Copy
+pub mod Copies

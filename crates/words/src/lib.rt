@@ -1,8 +1,9 @@
 // The lent table: its sizes, its words by name, and its frames. No other crate knows where a word stands.
 ghost use mathlib.Core.Path.{_≡_};
 ghost use mathlib.Core.Bool.{true};
-ghost use Prim.Native.Nat.{_-_, _≤_, _<_};
-ghost use lib.ListN.{getD};
+ghost use Prim.Native.Nat.{_+_, _-_, _≤_, _<_};
+ghost use lib.ListN.{length, getD, drop};
+ghost use lib.Seq.{paste};
 ghost use Rattle.words.specs.Layout.{
   within,
   limits,
@@ -20,7 +21,9 @@ ghost use Rattle.words.specs.Layout.{
   putFrame,
   noFrame,
 };
+ghost use Rattle.words.specs.Copy.{taller, raised};
 ghost use Rattle.words.specs.Inner.{Small, Fits, Placed};
+ghost use Rattle.words.specs.declared.Measured.the-variants.{Sized};
 
 // A level, a queue and a node: three kinds of number.
 pub struct Level(pub u16);
@@ -315,4 +318,44 @@ pub fn no_frame() -> Frame
         m: Level(0),
         steps: 0,
     }
+}
+
+// The sizes with one more level.
+pub fn add_level(s: Sizes) -> Sizes
+    requires { ⌜ Small s ⌝ }
+    ensures { λ r. ⌜ r ≡ taller s ⌝ }
+{
+    Sizes {
+        levels: s.levels + 1,
+        queues: s.queues,
+        nodes: s.nodes,
+    }
+}
+
+// Copies n words, those from place at on, to the given place of other words.
+fn copy_part(from: &[u16], at: usize, n: usize, to: &mut [u16], place: usize)
+    requires { ⌜ (at + n ≤ length (now from)) × (place + n ≤ length (now to)) ⌝ }
+    ensures { λ _. ⌜ now (to .exit) ≡ paste (now (to .entry)) place (drop at (now (from .entry))) n ⌝ }
+{
+    let mut i = 0;
+    while i < n {
+        to[place + i] = from[at + i];
+        i += 1;
+    }
+}
+
+// Copies a table with one more idle level on top.
+pub fn raise(t: &[u16], s: Sizes, copy: &mut [u16])
+    requires { ⌜ measured (now t) ≡ Sized s ⌝ }
+    requires { ⌜ length (now copy) ≡ words (taller s) ⌝ }
+    ensures { λ _. ⌜ now (copy .exit) ≡ raised s (now (t .entry)) ⌝ }
+{
+    let cut = 1 + 2 * s.levels;
+    copy_part(t, 0, cut, copy, 0);
+    copy[cut] = 0;
+    copy[cut + 1] = 0;
+    copy_part(t, cut, words_of(s) - cut, copy, cut + 2);
+    let tall = add_level(s);
+    write_frame(copy, tall, Level(narrow(s.levels)), no_frame());
+    put_counts(copy, tall);
 }

@@ -1,5 +1,6 @@
 use Rattle.search.specs.Laws.{step-cut, step-more, step-last, begin-none, begin-cut, begin-more, begin-last, begin-stop}
-use Rattle.search.specs.Laws.{listing-closed, part-length, copied, count-more, last-path}
+use Rattle.search.specs.Laws.{listing-closed, copied, count-more, last-path}
+use Rattle.words.specs.Copies.{part-length}
 use lib.ListN.{length}
 use mathlib.Core.Path.{refl, sym, ap}
 use native.Mathlib.Omega.{arith}

@@ -1,34 +1,17 @@
 use native.Mathlib.Omega.{arith}
 use mathlib.Core.Path.{refl, sym}
-use Rattle.search.specs.Laws.{part-length}
+use Rattle.words.specs.Copies.{part-length}
 use Rattle.tries.specs.Answers.{limits-so, few-so, table-fits, part-is, try-refused, try-on}
 use borrow.Author.Needs.{needs}
 use Rattle.tries.proofs.try_schedules.Statement.{statement}
 use Rattle.tries.proofs.try_schedules.Tie as tie
-use Rattle.tries.proofs.try_schedules.Reads as reads
-use Rattle.tries.proofs.try_schedules.Lts as lts
-use Rattle.tries.proofs.list_texts.Reads as list-texts-reads
-use Rattle.tries.proofs.refusal_of.Reads as refusal-of-reads
-use Rattle.tries.proofs.sizes_of.Reads as sizes-of-reads
-use Rattle.words.proofs.words_of.Reads as words-of-reads
 
--- src/lib.rt:170:9
-sizes-of-requires : tie.Need-sizes-of-requires
-sizes-of-requires c κs = search needs
-
--- src/lib.rt:171:9
-refusal-of-requires : tie.Need-refusal-of-requires
-refusal-of-requires c κs = search needs
-
--- src/lib.rt:173:9
 returns : tie.Need-returns
 returns c = try-refused _ _ _ _ _ _ (c .before .before .sizes-of .ensures) (c .before .refusal-of .ensures) _ _ (c .if1 .taken)
 
--- src/lib.rt:183:9
 words-of-requires : tie.Need-words-of-requires
 words-of-requires c κs = rw (c .before .before .sizes-of .ensures) (omega arith)
 
--- src/lib.rt:186:13
 array-borrow-prefix-table : tie.Need-array-borrow-prefix-table
 array-borrow-prefix-table c =
     let sizes-of-says = c .before .before .before .sizes-of .ensures in
@@ -36,7 +19,6 @@ array-borrow-prefix-table c =
     let if1-no = c .before .if1 .left in
     table-fits _ _ _ _ _ _ sizes-of-says refusal-of-says if1-no _ (c .words-of .ensures)
 
--- src/lib.rt:186:9
 slice-aggregate-t : tie.Need-slice-aggregate-t
 slice-aggregate-t c =
     let sizes-of-says = c .before .before .before .before .sizes-of .ensures in
@@ -45,7 +27,6 @@ slice-aggregate-t c =
     let words-of-says = c .before .words-of .ensures in
     sym (part-length _ 2276 (table-fits _ _ _ _ _ _ sizes-of-says refusal-of-says if1-no _ words-of-says))
 
--- src/lib.rt:187:16
 array-borrow-prefix-spare : tie.Need-array-borrow-prefix-spare
 array-borrow-prefix-spare c =
     let sizes-of-says = c .before .before .before .before .sizes-of .ensures in
@@ -54,7 +35,6 @@ array-borrow-prefix-spare c =
     let words-of-says = c .before .words-of .ensures in
     table-fits _ _ _ _ _ _ sizes-of-says refusal-of-says if1-no _ words-of-says
 
--- src/lib.rt:187:9
 slice-aggregate-copy : tie.Need-slice-aggregate-copy
 slice-aggregate-copy c =
     let sizes-of-says = c .before .before .before .before .before .sizes-of .ensures in
@@ -63,7 +43,6 @@ slice-aggregate-copy c =
     let words-of-says = c .before .before .words-of .ensures in
     sym (part-length _ 2276 (table-fits _ _ _ _ _ _ sizes-of-says refusal-of-says if1-no _ words-of-says))
 
--- src/lib.rt:188:5
 list-texts-requires : tie.Need-list-texts-requires
 list-texts-requires c κs =
     let sizes-of-says = c .before .before .before .before .before .before .sizes-of .ensures in
@@ -80,11 +59,6 @@ list-texts-requires c κs =
       omega arith,
     )
 
--- src/lib.rt:159:1
-same-length : tie.Need-same-length
-same-length c = search needs
-
--- src/lib.rt:159:1
 returns-2 : tie.Need-returns-2
 returns-2 c =
     let c10 = c .before .before .before .before .before .before .before .before .before .before in
@@ -97,15 +71,5 @@ returns-2 c =
 pub try-schedules-spec : {M : Type 1} → statement M
 try-schedules-spec =
     tie.close
-    (tie.spec
-    sizes-of-requires
-    refusal-of-requires
-    returns
-    words-of-requires
-    array-borrow-prefix-table
-    slice-aggregate-t
-    array-borrow-prefix-spare
-    slice-aggregate-copy
-    list-texts-requires
-    same-length
-    returns-2)
+    (tie.spec (λ c κs. search needs) (λ c κs. search needs) returns words-of-requires array-borrow-prefix-table slice-aggregate-t
+    array-borrow-prefix-spare slice-aggregate-copy list-texts-requires (λ c. search needs) returns-2)
