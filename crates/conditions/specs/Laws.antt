@@ -45,8 +45,16 @@ has-node s n h =
     within-is 1 (s .nodes) (n .0) (omega arith) (within-high (s .queues + 1) (s .nodes) (n .0) k)
 
 -- a search among frames that are alike
+pub some-alike : (s r : Sizes) (t u : List ℕ) (w : Sought) (i n : ℕ)
+    → ((k : ℕ) → i ≤ k → k < i + n → sought w (frameOf r u (level k)) ≡ sought w (frameOf s t (level k)))
+    → some r u w i n ≡ some s t w i n
+unfolding some
+some-alike s r t u w i zero h = refl
+some-alike s r t u w i (suc n) h =
+    let here = h i (omega arith) (omega arith) in
+    let above = some-alike s r t u w (i + 1) n (λ k a b. h k (omega arith) (omega arith)) in
+    rw (here, above)
+
 pub some-same : (s : Sizes) (t u : List ℕ) (w : Sought) → ((k : Level) → sought w (frameOf s u k) ≡ sought w (frameOf s t k)) → (i n : ℕ)
     → some s u w i n ≡ some s t w i n
-unfolding some
-some-same s t u w h i zero = refl
-some-same s t u w h i (suc n) = rw (h (level i), some-same s t u w h (i + 1) n)
+some-same s t u w h i n = some-alike s s t u w i n (λ k a b. h (level k))

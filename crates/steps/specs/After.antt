@@ -63,7 +63,7 @@ module _ (s : Sizes) (t : List ℕ) (room : words s ≤ length t) where
   nobody-refused x z e = sym e ∙ rw z refl
 
   -- the step of the level that is served, its frame held beside the table
-  served-step : (l : Level) → serving s t (s .levels) ≡ At l
+  pub served-step : (l : Level) → serving s t (s .levels) ≡ At l
       → stepSized s t ≡ back s l (frameOf s t l) (held s t l (counted (frameOf s t l)) .0) (held s t l (counted (frameOf s t l)) .1)
   served-step l z =
       let own : putFrame s t l (frameOf s t l) ≡ t = put-own s t l in

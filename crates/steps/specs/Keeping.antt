@@ -286,7 +286,8 @@ module _ (s : Sizes) (t : List ℕ) (room : words s ≤ length t) where
 
 -- ---- the level served
 
-serving-same : (s : Sizes) (t u : List ℕ) (n : ℕ) → ((k : Level) → frameOf s u k .op ≡ frameOf s t k .op) → serving s u n ≡ serving s t n
+pub serving-same : (s : Sizes) (t u : List ℕ) (n : ℕ) → ((k : Level) → frameOf s u k .op ≡ frameOf s t k .op)
+    → serving s u n ≡ serving s t n
 unfolding serving
 serving-same s t u zero h = refl
 serving-same s t u (suc n) h = rw (h (level n), serving-same s t u n h)

@@ -10,3 +10,4 @@ pub mod Holding
 pub mod Singly
 pub mod After
 pub mod Levels
+pub mod Aside

@@ -99,7 +99,7 @@ step-by-run s t u y m h = by (stepSized s t) (step-kept s t m .known) h
 abbrev Within : ℕ → ℕ → Said Run → Type 0
 Within n left (refused r) = Unit
 Within n left (says (after m (an-end e))) = (n < m) × (m ≤ n + left)
-Within n left (says (after m spent)) = m ≤ n + left
+Within n left (says (after m spent)) = m ≡ n + left
 Within n left (says (after m nothing-runs)) = m ≤ n + left
 Within n left (says (after m refusal-10)) = m ≤ n + left
 
@@ -142,6 +142,13 @@ module _ (s : Sizes) where
       by spent w = omega (arith, w)
       by nothing-runs w = omega (arith, w)
       by refusal-10 w = omega (arith, w)
+
+  -- a budget is spent where all of it was taken
+  pub sized-spent : (left m : ℕ) (t u : List ℕ) → runFrom s left 0 t ≡ (says (after m spent), u) → m ≡ left
+  sized-spent left m t u h =
+      let w : Within 0 left (says (after m spent)) =
+      subst (λ (x : Said Run × List ℕ). Within 0 left (x .0)) h (run-within left 0 t) in
+      omega (arith, w)
 
   run-kept : (left n : ℕ) (t : List ℕ) → measured t ≡ Sized s → measured (runFrom s left n t .1) ≡ Sized s
   unfolding runFrom ranOn

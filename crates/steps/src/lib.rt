@@ -100,7 +100,7 @@ fn end_of(l: Level, f: Frame, n: Node) -> End
 
 // A run of level l, which is served throughout. Its frame is held beside the table, and put back at the end with its steps counted; that
 // it gives no refusal 10 by itself is asked once, since a step that goes on keeps that so.
-fn run_level(t: &mut [u16], s: Sizes, l: Level, budget: u16) -> Ran
+pub fn run_level(t: &mut [u16], s: Sizes, l: Level, budget: u16) -> Ran
     requires { ⌜ Fits s (now t) ⌝ }
     requires { ⌜ (serving s (now t) (s .levels) ≡ At l) × (1 ≤ budget) ⌝ }
     ensures { λ r. ⌜ runFrom s budget 0 (now (t .entry)) ≡ (runSays r, now (t .exit)) ⌝ }
