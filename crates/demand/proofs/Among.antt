@@ -48,14 +48,14 @@ use Rattle.demand.specs.Demand.{firstOf}
 here-d2 : {top q l : ℕ} {v : View} {g : Regs} {i : Item} {st : Stack} {b b′ : Bool} → Here top q v l g D2 i st b b′ → g .c ≡ v .head
 here-d2 (is-loose z (d2 o e)) = e
 
-pile-d2 : {top q n : ℕ} {v : View} {fr : ℕ → Frame} {st : Stack} {b : Bool} (l : ℕ) → Pile top q v fr n st b → Listed l st
+pub pile-d2 : {top q n : ℕ} {v : View} {fr : ℕ → Frame} {st : Stack} {b : Bool} (l : ℕ) → Pile top q v fr n st b → Listed l st
     → pointOf (fr l .point) ≡ D2 → fr l .c .0 ≡ v .head
 pile-d2 {fr = fr} l (upon {l = j} a o e h d) (inl z) p =
     let at-D2 : pointOf (fr j .point) ≡ D2 = rw z at p in rw z (here-d2 (rw (sym e ∙ at-D2) at h))
 pile-d2 l (upon a o e h d) (inr z) p = pile-d2 l d z p
 
 -- a queue whose tail is head has no first node
-first-none : {M : Mem} {q x : ℕ} → First M q x → M .tail q ≡ M .head q → x ≡ 0
+pub first-none : {M : Mem} {q x : ℕ} → First M q x → M .tail q ≡ M .head q → x ≡ 0
 first-none (nothing e) h = refl
 first-none (user e own more linked) h = absurd (more (h ∙ e))
 first-none (behind e more second own real end linked) h = absurd (more (h ∙ e))

@@ -49,6 +49,13 @@ none-of s t w i (suc n) h j a b = by (sought w (frameOf s t (level i))) refl h (
     by false e h ih true (same z) = rw z e
     by false e h ih false (apart z) = ih h j (omega arith) (omega arith)
 
+pub none-sought : (s : Sizes) (t : List ℕ) (w : Sought) (i n : ℕ)
+    → ((j : ℕ) → i ≤ j → j < i + n → sought w (frameOf s t (level j)) ≡ false) → some s t w i n ≡ false
+unfolding some
+none-sought s t w i zero h = refl
+none-sought s t w i (suc n) h =
+    rw (h i (omega arith) (omega arith), none-sought s t w (i + 1) n (λ j a b. h j (omega arith) (omega arith)))
+
 not-running : (f : Frame) → sought Running f ≡ false → f .op ≡ 0
 unfolding sought
 not-running f h = eqb-true (f .op) 0 (not-false (eqb (f .op) 0) h)
@@ -94,12 +101,12 @@ pub record CanDequeue (s : Sizes) (t : List ℕ) (l : Level) (q : Queue) (u : Li
   pub frames-are : frames s u ≡ put (frames s t) (l .0) (begun 2 D1 q (node 0))
 
 module _ (s : Sizes) (t : List ℕ) (m : measured t ≡ Sized s) (l : Level) where
-  not-busy : busy s t l ≡ false → l .0 < s .levels → IdleFrom (l .0) (stateOf s t)
+  pub not-busy : busy s t l ≡ false → l .0 < s .levels → IdleFrom (l .0) (stateOf s t)
   unfolding busy
   not-busy h low j a =
       frame-idle s t j (λ b. not-running (frameOf s t (level j)) (none-of s t Running (l .0) (s .levels - l .0) h j a (omega arith)))
 
-  not-dequeued : (q : Queue) → dequeued s t l q ≡ false → l .0 < s .levels → IdleFrom (l .0) (stateOf s t)
+  pub not-dequeued : (q : Queue) → dequeued s t l q ≡ false → l .0 ≤ s .levels → IdleFrom (l .0) (stateOf s t)
       → (j : ℕ) → frames s t j .op ≡ 2 → frames s t j .queue .0 ≢ q .0
   unfolding dequeued
   not-dequeued q h low idle j two = by (ltb j (l .0)) refl
@@ -152,7 +159,7 @@ module _ (s : Sizes) (t : List ℕ) (m : measured t ≡ Sized s) (l : Level) whe
         some-queue = b .0;
         queue-known = b .1;
         idle = not-busy (c .idle) (c .has-l);
-        only = not-dequeued q (c .alone) (c .has-l) (not-busy (c .idle) (c .has-l));
+        only = not-dequeued q (c .alone) (omega (arith, c .has-l)) (not-busy (c .idle) (c .has-l));
         table = sym (a .1);
         mem-is = rw (← (a .1)) (memory-put s t (measured-fits t s m .room) l (begun 2 D1 q (node 0)));
         frames-are = rw (← (a .1)) (frames-put s t (measured-fits t s m .room) l (c .has-l) (begun 2 D1 q (node 0)));

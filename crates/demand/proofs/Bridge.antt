@@ -1,17 +1,17 @@
 -- From the words to the memory: a step of the table, where its row's word is one of the table's, is a step of what the theory sees.
-use Prim.Native.Nat.{ℕ, _<_}
+use Prim.Native.Nat.{ℕ, _≤_, _<_}
 use mathlib.Core.Path.{_≡_, refl, ap, _∙_}
 use mathlib.Core.Logic.{_≢_}
 use mathlib.Core.Bool.{true}
 use mathlib.Core.List.{List}
 use native.Mathlib.Omega.{arith}
+use lib.ListN.{length}
 use Rattle.words.specs.declared.Level.{Level}
 use Rattle.words.specs.declared.Sizes.{Sizes}
 use Rattle.words.specs.declared.Frame.{Frame}
-use Rattle.words.specs.declared.Measured.the-variants.{Sized}
 use Rattle.words.specs.declared.Word.the-variants.{Next, Use}
-use Rattle.words.specs.Layout.{level, measured, has, wr, putFrame}
-use Rattle.words.specs.Laws.{Bound, measured-wr, measured-put, measured-fits, has-is}
+use Rattle.words.specs.Layout.{level, words, has, wr, putFrame}
+use Rattle.words.specs.Laws.{Bound, wr-length, put-length, has-is}
 use Rattle.answers.specs.Said.{Said, refused, says, Step, going-on, ended}
 use Rattle.table.specs.declared.After.{After}
 use Rattle.table.specs.declared.After.the-variants.{Go, Done}
@@ -34,51 +34,50 @@ unfolding settled
 settled-is s t l f (Go g) = refl
 settled-is s t l f (Done n) = refl
 
--- a table u that came from t by a step at level l, with the row x
+-- A table u that came from t by a step at level l, with the row x. Of the sizes it has the room alone: that a step keeps what a table
+-- measures is `stepped-kept` of crate steps.
 pub record Bridged (s : Sizes) (t u : List ℕ) (l : ℕ) (f : Frame) (x : Row) : Type 0 where
-  pub sized : measured u ≡ Sized s
+  pub room : words s ≤ length u
   pub mem : memory s u ≡ memAfter (memory s t) x
   pub frames-are : frames s u ≡ put (frames s t) l (frameAfter (then (memory s t) x f))
 
 module _ (s : Sizes) (l : ℕ) (low : l < s .levels) where
-  put-bridged : (t v : List ℕ) (f : Frame) (x : Row) → measured v ≡ Sized s → memory s v ≡ memAfter (memory s t) x → frames s v ≡ frames s t
+  put-bridged : (t v : List ℕ) (f : Frame) (x : Row) → words s ≤ length v → memory s v ≡ memAfter (memory s t) x → frames s v ≡ frames s t
       → Bridged s t (putFrame s v (level l) (frameAfter (then (memory s t) x f))) l f x
-  put-bridged t v f x m e h =
-      let room = measured-fits v s m .room in
+  put-bridged t v f x room e h =
       let g = frameAfter (then (memory s t) x f) in
       record {
-        sized = measured-put s v (level l) g m;
+        room = omega (arith, put-length s v (level l) g);
         mem = memory-put s v room (level l) g ∙ e;
         frames-are = frames-put s v room (level l) low g ∙ ap (λ (F : ℕ → Frame). put F l g) h;
       }
 
-  pub performed-is : (t : List ℕ) → measured t ≡ Sized s → (q : ℕ) (S : State) (f : Frame) (x : Row) → Within s q S x
+  pub performed-is : (t : List ℕ) → words s ≤ length t → (q : ℕ) (S : State) (f : Frame) (x : Row) → Within s q S x
       → (u : List ℕ) × (performed s t (level l) f x ≡ (says (saysOf (level l) f (then (memory s t) x f)), u)) × Bridged s t u l f x
   unfolding performed Bound
-  performed-is t m q S f x (load {w = w} {after = after} b) =
+  performed-is t room q S f x (load {w = w} {after = after} b) =
       let h = has-is s w b in
       let e = look-rd s t w h in (
         putFrame s t (level l) (frameAfter (after (look (memory s t) w))),
         rw (h, ← e) (settled-is s t (level l) f (after (look (memory s t) w))),
-        put-bridged t t f x m refl refl,
+        put-bridged t t f x room refl refl,
       )
-  performed-is t m q S f x (store {w = w} {v = v} {after = after} b k) =
+  performed-is t room q S f x (store {w = w} {v = v} {after = after} b k) =
       let h = has-is s w b in
-      let room = measured-fits t s m .room in (
+      let room′ : words s ≤ length (wr s t w v) = omega (arith, wr-length s t w v) in (
         putFrame s (wr s t w v) (level l) (frameAfter after),
         rw h (settled-is s (wr s t w v) (level l) f after),
-        put-bridged t (wr s t w v) f x (measured-wr s t w v m h) (memory-wr s t room w h v) (frames-wr s t room w h v),
+        put-bridged t (wr s t w v) f x room′ (memory-wr s t room w h v) (frames-wr s t room w h v),
       )
-  performed-is t m q S f x (free {n = n} {after = after} own high o) =
+  performed-is t room q S f x (free {n = n} {after = after} own high o) =
       let h : has s (Next n) ≡ true = has-is s (Next n) (omega arith) in
       let k : has s (Use n) ≡ true = has-is s (Use n) (omega arith) in
       let v = wr s t (Next n) 0 in
-      let m′ = measured-wr s t (Next n) 0 m h in
-      let room = measured-fits t s m .room in
-      let room′ = measured-fits v s m′ .room in (
+      let room′ : words s ≤ length v = omega (arith, wr-length s t (Next n) 0) in
+      let room″ : words s ≤ length (wr s v (Use n) 0) = omega (arith, wr-length s v (Use n) 0) in (
         putFrame s (wr s v (Use n) 0) (level l) (frameAfter after),
         rw h (settled-is s (wr s v (Use n) 0) (level l) f after),
-        put-bridged t (wr s v (Use n) 0) f x (measured-wr s v (Use n) 0 m′ k)
+        put-bridged t (wr s v (Use n) 0) f x room″
             (memory-wr s v room′ (Use n) k 0 ∙ ap (λ (M : Mem). upd M (Use n) 0) (memory-wr s t room (Next n) h 0))
             (frames-wr s v room′ (Use n) k 0 ∙ frames-wr s t room (Next n) h 0),
       )

@@ -1,5 +1,5 @@
 -- A quiet moment: what the invariant of a quiet queue says of the words.
-use Prim.Native.Nat.{ℕ, zero, suc, _+_, _≤_, _<_}
+use Prim.Native.Nat.{ℕ, _+_, _≤_, _<_}
 use mathlib.Core.Path.{_≡_, refl, sym, ap, _∙_}
 use mathlib.Core.Logic.{_≢_}
 use mathlib.Core.Bool.{Bool, true, false, cond, not, _&&_}
@@ -17,9 +17,8 @@ use Rattle.words.specs.declared.Word.the-variants.{Head, Tail}
 use Rattle.words.specs.Layout.{level, within, measured, rd, frameOf}
 use Rattle.words.specs.Laws.{Bound, within-low, within-high, within-is, has-is}
 use Rattle.answers.specs.Said.{Said, refused, says}
-use Rattle.conditions.specs.declared.Sought.{Sought}
 use Rattle.conditions.specs.declared.Sought.the-variants.{RunningOn}
-use Rattle.conditions.specs.Conditions.{sought, some, noQueue, unquiet}
+use Rattle.conditions.specs.Conditions.{sought, noQueue, unquiet}
 use Rattle.asks.specs.Quiet.{quietMeasured, quietOf}
 use Rattle.asks.specs.Listing.{nodesFrom, nodesOf, listed, listingSized, listingMeasured, listingOf}
 use Rattle.lists.specs.Count.{Same, same, apart, same?, cnt, cnt-nil, cnt-self}
@@ -34,7 +33,7 @@ use Rattle.invariant.specs.Sound.{Sound, Chained}
 use Rattle.invariant.proofs.Rest.{quiet as at-rest}
 use Rattle.demand.proofs.World.{World}
 use Rattle.demand.proofs.Bridge.{other-number}
-use Rattle.demand.proofs.Begins.{none-of}
+use Rattle.demand.proofs.Begins.{none-of, none-sought}
 use Rattle.demand.proofs.Quiet.{chain-is, along-is, first-is}
 use Rattle.demand.proofs.Alone.{First}
 use Rattle.demand.specs.History.{stillIn}
@@ -90,19 +89,13 @@ not-sought q f h = by (eqb (f .op) 0) (same? (f .op) 0) (eqb (f .queue .0) (q .0
     by false (apart e) true (same k) = absurd (h (e, k))
     by false (apart e) false (apart k) = refl
 
-none-sought : (s : Sizes) (t : List ℕ) (w : Sought) (i n : ℕ) → ((j : ℕ) → j < i + n → sought w (frameOf s t (level j)) ≡ false)
-    → some s t w i n ≡ false
-unfolding some
-none-sought s t w i zero h = refl
-none-sought s t w i (suc n) h = rw (h i (omega arith), none-sought s t w (i + 1) n (λ j k. h j (omega arith)))
-
 pub quiet-then : (s : Sizes) (t : List ℕ) (q : Queue) → measured t ≡ Sized s → Nobody s t q → QuietAt t q
 unfolding quietOf quietMeasured noQueue unquiet
 quiet-then s t q m nb =
     rw (m, within-is 1 (s .queues) (q .0) (nb .some-queue) (nb .queue-known), none-sought s t (RunningOn q) 0 (s .levels) off)
   where
-    off : (j : ℕ) → j < 0 + s .levels → sought (RunningOn q) (frameOf s t (level j)) ≡ false
-    off j low = not-sought q (frameOf s t (level j)) (rw (frame-is s t j (omega arith)) at (nb .nobody j))
+    off : (j : ℕ) → 0 ≤ j → j < 0 + s .levels → sought (RunningOn q) (frameOf s t (level j)) ≡ false
+    off j from low = not-sought q (frameOf s t (level j)) (rw (frame-is s t j (omega arith)) at (nb .nobody j))
 
 -- ---- the nodes of a queue
 

@@ -7,6 +7,7 @@ use mathlib.Core.Bool.{Bool, true, false, cond, not, _&&_}
 use mathlib.Core.List.{List, [], _∷_, _++_}
 use native.Mathlib.Omega.{arith}
 use lib.Dec.{leb, eqb}
+use lib.ListN.{length}
 use borrow.Author.Tests.{eq-eqb, ne-eqb, le-leb, lt-leb}
 use Rattle.words.specs.declared.Level.{Level}
 use Rattle.words.specs.declared.Sizes.{Sizes}
@@ -14,8 +15,8 @@ use Rattle.words.specs.declared.Frame.{Frame}
 use Rattle.words.specs.declared.Measured.the-variants.{Sized}
 use Rattle.words.specs.declared.Word.{Word}
 use Rattle.words.specs.declared.Word.the-variants.{LevelNode, LevelQueue, Head, Tail, Next, Use}
-use Rattle.words.specs.Layout.{level, within, measured, frameOf}
-use Rattle.words.specs.Laws.{within-is}
+use Rattle.words.specs.Layout.{level, words, within, measured, frameOf}
+use Rattle.words.specs.Laws.{within-is, measured-fits}
 use Rattle.answers.specs.declared.End.{End}
 use Rattle.table.specs.declared.After.{After}
 use Rattle.table.specs.declared.After.the-variants.{Go, Done}
@@ -26,6 +27,7 @@ use Rattle.answers.specs.Said.{refused, says, Step}
 use Rattle.steps.specs.declared.Served.{Served}
 use Rattle.steps.specs.declared.Served.the-variants.{At, Nobody}
 use Rattle.steps.specs.Step.{serving, strays, sound, endOf, stepFrame, stepServed, stepSized}
+use Rattle.steps.specs.Singly.{stepped-kept}
 use Rattle.lists.specs.Count.{Same, same, apart, same?, cnt, counts}
 use Rattle.lists.specs.Beginning.{Beginning, begins-same}
 use Rattle.state.specs.Mem.{Mem, look, upd}
@@ -137,8 +139,8 @@ module _ (l : Level) (M : Mem) (f : Frame) where
   plain-none r p a (handed {n = n} o e) = no-dequeue r (endOf l f n) o
 
   -- a step returns the node that its row frees
-  returns-out : (s : Sizes) (q : ℕ) (S : State) (p : Point) (x : Row) → Within s q S x → Plainly p f x → f .queue .0 ≡ q → (p ≡ D7 → f .op ≡ 2)
-      → returnedByStep q (saysOf l f (then M x f)) ≡ outOf x
+  pub returns-out : (s : Sizes) (q : ℕ) (S : State) (p : Point) (x : Row) → Within s q S x → Plainly p f x → f .queue .0 ≡ q
+      → (p ≡ D7 → f .op ≡ 2) → returnedByStep q (saysOf l f (then M x f)) ≡ outOf x
   returns-out s q S p x (load b) (Plainly.load {w = w} h) k d = plain-none q p _ (h (look M w))
   returns-out s q S p x (store b m) (Plainly.store h) k d = plain-none q p _ h
   returns-out s q S p x (free low high o) (Plainly.free {n = n} z e) k d = its-node q (endOf l f n) (d z) k (omega arith)
@@ -169,7 +171,7 @@ module _ (s : Sizes) (q : ℕ) (S : State) (some : 1 ≤ q) (y : ℕ) where
   abbrev owned : Mem → ℕ
   owned M = own (s .queues) (M .uses) q y
 
-  out-balance : (x : Row) → Within s q S x → owned (memAfter (S .mem) x) + cnt y (outOf x) ≡ owned (S .mem)
+  pub out-balance : (x : Row) → Within s q S x → owned (memAfter (S .mem) x) + cnt y (outOf x) ≡ owned (S .mem)
   out-balance x (load b) = simp counts (omega arith)
   out-balance x (store {w = w} {v = v} b m) = rw (use-stored s q S w v m) (simp counts (omega arith))
   out-balance x (free {n = n} low high o) =
@@ -181,6 +183,25 @@ module _ (s : Sizes) (q : ℕ) (S : State) (some : 1 ≤ q) (y : ℕ) where
   others-balance r x ne (free {n = n} low high o) =
       own-put (s .queues) (S .mem .uses) q (n .0) 0 (λ e. ne (sym e ∙ own-use (s .queues) (S .mem .uses) r (n .0) low o))
       (λ e. omega arith) y
+
+-- A step of the frame f at level l, the highest that runs: it is one that a step accepts, and its access is within the table. Nothing else
+-- of the table is looked at, not even its counts.
+pub step-bridged : (s : Sizes) (t : List ℕ) → words s ≤ length t → (l : ℕ) (f : Frame) → f ≡ frames s t l → l < s .levels
+    → f .op ≢ 0 → ((j : ℕ) → l < j → frames s t j .op ≡ 0)
+    → f .op ≤ 2 → (f .op ≡ 1 → f .point < 31) → (1 ≤ f .queue .0) × (f .queue .0 ≤ s .queues)
+    → (q : ℕ) (S : State) → Within s q S (rowOf (s .levels) l f)
+    → (u : List ℕ) × (stepSized s t ≡ (says (saysOf (level l) (counted f) (then (memory s t) (rowOf (s .levels) l f) (counted f))), u))
+    × Bridged s t u l (counted f) (rowOf (s .levels) l f)
+unfolding stepSized stepServed stepFrame
+step-bridged s t room l f is low run top known early on q S inside =
+    let here : f ≡ frameOf s t (level l) = is ∙ frame-is s t l low in
+    let done = performed-is s l low t room q S (counted f) (rowOf (s .levels) l f) inside in
+    let served = serving-is s t l (s .levels) low (λ z. run (ap (λ (g : Frame). g .op) here ∙ z))
+    (λ j a b. ap (λ (g : Frame). g .op) (sym (frame-is s t j b)) ∙ top j a) in (
+      done .0,
+      rw served (ap (λ (g : Frame). stepFrame s t (level l) (counted g)) (sym here) ∙ rw (sound-is s f known early on) (done .1)),
+      done .2,
+    )
 
 -- a step that serves the frame at level l, the highest that runs, and says x
 pub record StepAt (s : Sizes) (t : List ℕ) (fronts : ℕ → List ℕ) (l : ℕ) (x : Step) : Type 0 where
@@ -238,10 +259,11 @@ module _ (s : Sizes) (t : List ℕ) (fronts : ℕ → List ℕ) (m : measured t 
         by true (same z) = absurd (omega (arith, k .point z, number-D7 (f .point) e))
         by false (apart z) = let o = k .op in let r = running .0 in omega arith
 
-    took-from : (u : List ℕ) → Bridged s t u l (counted f) x → Keeps s t fronts (λ r. returnedByStep r (saysOf (level l) (counted f) a)) (λ r. []) u
+    took-from : (u : List ℕ) → measured u ≡ Sized s → Bridged s t u l (counted f) x
+        → Keeps s t fronts (λ r. returnedByStep r (saysOf (level l) (counted f) a)) (λ r. []) u
     unfolding counted
-    took-from u b =
-        record { sized = b .sized; fronts′ = k .fronts′; world = rw state (k .world); begins = begins; balance = balance }
+    took-from u sized b =
+        record { sized = sized; fronts′ = k .fronts′; world = rw state (k .world); begins = begins; balance = balance }
       where
         state : stateOf s u ≡ stepped (s .levels) l (stateOf s t)
         state = λ i. record { mem = b .mem i; frames = b .frames-are i }
@@ -273,20 +295,19 @@ module _ (s : Sizes) (t : List ℕ) (fronts : ℕ → List ℕ) (m : measured t 
                 let o = others-balance s r (stateOf s t) some y q x e (k .within) in rw (there r e, b .mem) (simp counts (omega arith))
 
     pub step-at : StepAt s t fronts l (saysOf (level l) (counted f) a)
-    unfolding stepSized stepServed stepFrame
     step-at =
-        let e = sym (frame-is s t l low) in
-        let done = performed-is s l low t m q (stateOf s t) (counted f) x (k .within) in
+        let room = measured-fits t s m .room in
+        let higher : (j : ℕ) → l < j → frames s t j .op ≡ 0 = λ j h. frame-idle s t j (top j h) in
+        let done =
+        step-bridged s t room l f refl low (running .0) higher (k .op) (k .point) somewhere q (stateOf s t) (k .within) in
         record {
           table = done .0;
-          is =
-              rw (serving-is s t l (s .levels) low run top)
-              (ap (λ (g : Frame). stepFrame s t (level l) (counted g)) e ∙ rw (sound-is s f (k .op) (k .point) somewhere) (done .1));
+          is = done .1;
           bridged = done .2;
-          keeps = took-from (done .0) (done .2);
+          keeps = took-from (done .0) (stepped-kept s t (done .0) _ m (done .1)) (done .2);
           low = low;
           runs = running .0;
-          highest = λ j h. frame-idle s t j (top j h);
+          highest = higher;
           moving = k;
           said = refl;
         }

@@ -9,6 +9,7 @@ use lib.Dec.{eqb}
 use borrow.Author.Tests.{lt-ltb}
 use Rattle.words.specs.declared.Sizes.{Sizes}
 use Rattle.words.specs.declared.Node.{Node}
+use Rattle.words.specs.declared.Frame.{Frame}
 use Rattle.words.specs.Layout.{queue, node}
 use Rattle.answers.specs.Most.{enqueueMost, operationMost}
 use Rattle.table.specs.declared.After.the-variants.{Done}
@@ -34,6 +35,11 @@ AllFew s v S = (q : ℕ) → 1 ≤ q → q ≤ s .queues → Few s q v S
 -- the cost facts of every queue
 abbrev pub AllPaid : Sizes → ℕ → State → Type 0
 AllPaid s v S = (q : ℕ) → 1 ≤ q → q ≤ s .queues → Paid s q v S
+
+-- below the cap the steps word counts each step
+pub counts-one : (f : Frame) → f .steps < 65535 → counted f .steps ≡ f .steps + 1
+unfolding counted
+counts-one f h = rw (lt-ltb (f .steps) 65535 h)
 
 module _ (s : Sizes) (S : State) (fronts : ℕ → List ℕ) (w : World s S fronts) (v : ℕ) (paid : AllPaid s v S) where
   -- ---- a step
@@ -112,5 +118,4 @@ module _ (s : Sizes) (S : State) (fronts : ℕ → List ℕ) (w : World s S fron
 
     -- where the bound is not above 65,535, the steps word counts each step
     pub counts-each : operationMost j v ≤ 65535 → counted (S .frames j) .steps ≡ S .frames j .steps + 1
-    unfolding counted
-    counts-each h = rw (lt-ltb (S .frames j .steps) 65535 (omega (arith, operation-below)))
+    counts-each h = counts-one (S .frames j) (omega (arith, operation-below))
