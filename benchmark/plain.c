@@ -129,6 +129,16 @@ bench_answer plain_begin_enqueue(uint16_t *t, size_t len, uint16_t level, uint16
     return answered(0);
 }
 
+/* Some level below `level` has a dequeue of this queue. */
+static bool is_dequeued(const struct table *s, unsigned level, unsigned queue)
+{
+    const uint16_t *f = s->frame;
+    for (unsigned l = 0; l < level; l++, f += FRAME_WORDS)
+        if (f[OP] == DEQUEUE && f[QUEUE] == queue)
+            return true;
+    return false;
+}
+
 bench_answer plain_begin_dequeue(uint16_t *t, size_t len, uint16_t level, uint16_t queue)
 {
     struct table s;
@@ -140,11 +150,8 @@ bench_answer plain_begin_dequeue(uint16_t *t, size_t len, uint16_t level, uint16
         return refused(4);
     if (serving(&s) >= (int)level)
         return refused(6);
-    for (unsigned l = 0; l < level; l++) {
-        const uint16_t *f = s.frame + FRAME_WORDS * l;
-        if (f[OP] == DEQUEUE && f[QUEUE] == queue)
-            return refused(8);
-    }
+    if (is_dequeued(&s, level, queue))
+        return refused(8);
     begin(&s, level, DEQUEUE, D1, queue, 0);
     return answered(0);
 }
@@ -371,17 +378,54 @@ bench_answer plain_quiet(const uint16_t *t, size_t len, uint16_t queue)
     return answered(is_quiet(&s, queue));
 }
 
-bench_answer plain_waiting(const uint16_t *t, size_t len, uint16_t queue)
+/* Copies the levels, queues and nodes of the table s, with one more level on top. The frames are left
+ * out: no step looks at those below the level that is served. */
+static void copy_taller(struct table *copy, uint16_t *words, const struct table *s)
 {
-    struct table s;
+    lay_out(copy, words, s->levels + 1, s->queues, s->nodes);
+    memcpy(copy->level, s->level, 2 * s->levels * sizeof *words);
+    memset(copy->level + 2 * s->levels, 0, 2 * sizeof *words);
+    memcpy(copy->queue + 2, s->queue + 2, (2 * s->queues + 1 + 2 * s->nodes) * sizeof *words);
+}
+
+/* Counts the nodes that dequeues at level l return, begun one after another, until one says empty: 0, or
+ * 10 where a step is refused or so many steps are not enough. The level's frame stands apart. */
+static unsigned drain(const struct table *s, unsigned l, unsigned queue, unsigned steps, uint32_t *count)
+{
+    uint16_t end[BENCH_END_WORDS];
+    for (*count = 0;; ++*count) {
+        uint16_t f[FRAME_WORDS] = {[OP] = DEQUEUE, [POINT] = D1, [QUEUE] = (uint16_t)queue};
+        unsigned code = 0;
+        while (code == 0) {
+            if (steps-- == 0)
+                return 10;
+            code = step_frame(s, l, f, end);
+        }
+        if (code != BENCH_ENDED)
+            return code;
+        if (end[BENCH_END_NODE] == 0)
+            return 0;
+    }
+}
+
+bench_answer plain_waiting(const uint16_t *t, size_t len, uint16_t queue, uint16_t count[BENCH_COUNT_WORDS])
+{
+    struct table s, copy;
     if (!measure(&s, t, len))
         return refused(1);
     if (!is_queue(&s, queue))
         return refused(4);
-    unsigned count = 0;
-    for (unsigned n = 1; n <= s.nodes; n++)
-        count += s.node[2 * n + 1] == queue;
-    return answered(count);
+    if (is_dequeued(&s, s.levels, queue))
+        return refused(8);
+    uint16_t words[BENCH_WORDS(MAX_LEVELS + 1, MAX_QUEUES, MAX_NODES)];
+    copy_taller(&copy, words, &s);
+    uint32_t returned;
+    unsigned code = drain(&copy, s.levels, queue, (s.levels + 3) * (s.nodes + 7) * (s.nodes + 1), &returned);
+    if (code != 0)
+        return refused(code);
+    count[BENCH_COUNT_LOW] = (uint16_t)returned;
+    count[BENCH_COUNT_HIGH] = (uint16_t)(returned >> 16);
+    return answered(0);
 }
 
 bench_answer plain_listing(const uint16_t *t, size_t len, uint16_t queue, uint16_t *room, size_t room_len)

@@ -13,7 +13,7 @@
     bench_answer prefix##_step(uint16_t *, size_t, uint16_t[BENCH_END_WORDS]);                               \
     bench_answer prefix##_run(uint16_t *, size_t, uint16_t, uint16_t[BENCH_END_WORDS]);                      \
     bench_answer prefix##_quiet(const uint16_t *, size_t, uint16_t);                                         \
-    bench_answer prefix##_waiting(const uint16_t *, size_t, uint16_t);                                       \
+    bench_answer prefix##_waiting(const uint16_t *, size_t, uint16_t, uint16_t[BENCH_COUNT_WORDS]);          \
     bench_answer prefix##_listing(const uint16_t *, size_t, uint16_t, uint16_t *, size_t)
 
 CALLS_OF(plain);

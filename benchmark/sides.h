@@ -13,7 +13,7 @@ struct side {
     bench_answer (*step)(uint16_t *, size_t, uint16_t *);
     bench_answer (*run)(uint16_t *, size_t, uint16_t, uint16_t *);
     bench_answer (*quiet)(const uint16_t *, size_t, uint16_t);
-    bench_answer (*waiting)(const uint16_t *, size_t, uint16_t);
+    bench_answer (*waiting)(const uint16_t *, size_t, uint16_t, uint16_t *);
     bench_answer (*listing)(const uint16_t *, size_t, uint16_t, uint16_t *, size_t);
 };
 

@@ -7,7 +7,7 @@
 
 enum { LEVELS = 2, QUEUES = 1, NODES = 4, WORDS = BENCH_WORDS(LEVELS, QUEUES, NODES), ENOUGH = 65535 };
 
-static uint16_t table[WORDS], room[NODES], end[BENCH_END_WORDS];
+static uint16_t table[WORDS], room[NODES], end[BENCH_END_WORDS], count[BENCH_COUNT_WORDS];
 
 /* Runs the highest level that runs to the end of its operation. */
 static void run_to_end(void)
@@ -23,7 +23,8 @@ static void run_to_end(void)
 static void list(void)
 {
     bench_answer a = exports_listing(table, WORDS, 1, room, NODES);
-    printf("queue 1 has %d of %d waiting:", bench_value(a), bench_value(exports_waiting(table, WORDS, 1)));
+    exports_waiting(table, WORDS, 1, count);
+    printf("queue 1 has %d of %d waiting:", bench_value(a), (int)bench_count(count));
     for (int i = 0; i < bench_value(a); i++)
         printf(" %d", room[i]);
     printf("\n");

@@ -26,7 +26,7 @@ struct call {
 
 /* All that a call is lent. */
 struct lent {
-    uint16_t table[BUFFER], room[ROOM], end[BENCH_END_WORDS];
+    uint16_t table[BUFFER], room[ROOM], end[BENCH_END_WORDS], count[BENCH_COUNT_WORDS];
 };
 
 /* The table that is being tried: its words, how many are lent, and the sizes that it was made with. */
@@ -175,6 +175,9 @@ static struct call random_call(void)
         c.x[0] = mostly(1, Q);
         c.room = once_in(2) ? ROOM - below(SLACK) : below(N + 2);
         break;
+    case WAITING: /* the rarer the more steps it may take, up to 20 million */
+        if (!once_in(1 + (L + 3) * (N + 7) * (N + 1) / 10000))
+            c.kind = QUIET; /* fall through */
     default: c.x[0] = mostly(1, Q);
     }
     return c;
@@ -192,16 +195,16 @@ static uint16_t *guarded(void)
 
 static uint16_t *table_stop, *room_stop;
 
-static bench_answer make_on(const struct side *s, const struct call *c, uint16_t *t, uint16_t *room, uint16_t *end)
+static bench_answer make_on(const struct side *s, const struct call *c, uint16_t *t, uint16_t *room, struct lent *m)
 {
     switch (c->kind) {
     case FRESH: return s->fresh(t, len, c->x[0], c->x[1], c->x[2]);
     case ENQUEUE: return s->begin_enqueue(t, len, c->x[0], c->x[1], c->x[2]);
     case DEQUEUE: return s->begin_dequeue(t, len, c->x[0], c->x[1]);
-    case STEP: return s->step(t, len, end);
-    case RUN: return s->run(t, len, c->x[0], end);
+    case STEP: return s->step(t, len, m->end);
+    case RUN: return s->run(t, len, c->x[0], m->end);
     case QUIET: return s->quiet(t, len, c->x[0]);
-    case WAITING: return s->waiting(t, len, c->x[0]);
+    case WAITING: return s->waiting(t, len, c->x[0], m->count);
     default: return s->listing(t, len, c->x[0], room, c->room);
     }
 }
@@ -212,7 +215,7 @@ static bench_answer make(const struct side *s, const struct call *c, struct lent
     uint16_t *t = table_stop - len, *room = room_stop - c->room;
     memcpy(t, m->table, len * sizeof *t);
     memcpy(room, m->room, c->room * sizeof *room);
-    bench_answer a = make_on(s, c, t, room, m->end);
+    bench_answer a = make_on(s, c, t, room, m);
     memcpy(m->table, t, len * sizeof *t);
     memcpy(m->room, room, c->room * sizeof *room);
     return a;
@@ -254,6 +257,7 @@ static int differ(const struct call *c, const struct lent *before, const struct 
     show("table", a->table, b->table, BUFFER);
     show("room", a->room, b->room, ROOM);
     show("end", a->end, b->end, BENCH_END_WORDS);
+    show("count", a->count, b->count, BENCH_COUNT_WORDS);
     printf("  the words before:");
     for (size_t i = 0; i < len; i++)
         printf(" %u", before->table[i]);
@@ -261,13 +265,63 @@ static int differ(const struct call *c, const struct lent *before, const struct 
     return 1;
 }
 
-/* A refusal leaves everything as it was, and a run is its steps: plain C held to itself. */
+/* ---- plain C held to itself */
+
+/* The table with one more idle level on top: a table too, if it had fewer than 16 levels. */
+static size_t taller(uint16_t *to, const uint16_t *t)
+{
+    size_t levels = t[0], queues = t[1 + 2 * levels], nodes = t[2 + 2 * levels + 2 * queues];
+    size_t rest = 1 + 2 * levels, frames = 3 + rest + 2 * queues + 2 * nodes, all = frames + FRAME_WORDS * levels;
+    memcpy(to, t, rest * sizeof *t);
+    to[rest] = to[rest + 1] = 0;
+    memcpy(to + rest + 2, t + rest, (all - rest) * sizeof *t);
+    memset(to + all + 2, 0, FRAME_WORDS * sizeof *t);
+    to[0] = to[frames + 1] = (uint16_t)(levels + 1);
+    return all + 2 + FRAME_WORDS;
+}
+
+static uint64_t spent; /* how often no dequeue had said empty after all the steps of a waiting count */
+
+/* The code of a waiting count that is not refused by 1 or 4, and the count, by the other calls. */
+static uint16_t drained(const uint16_t *t, uint16_t queue, uint32_t *count)
+{
+    static uint16_t copy[BENCH_MOST_WORDS], end[BENCH_END_WORDS];
+    size_t size = taller(copy, t), levels = t[0], nodes = t[2 + 2 * levels + 2 * t[1 + 2 * levels]];
+    uint64_t left = (levels + 3) * (nodes + 7) * (nodes + 1);
+    for (*count = 0; plain_begin_dequeue(copy, size, (uint16_t)levels, queue) == 0; ++*count) {
+        bench_answer a = 0;
+        for (; left > 0 && bench_code(a) == 0; left -= bench_value(a))
+            a = plain_run(copy, size, (uint16_t)(left < 65535 ? left : 65535), end);
+        spent += bench_code(a) == 0;
+        if (bench_code(a) != BENCH_ENDED)
+            return 10;
+        if (end[BENCH_END_NODE] == 0)
+            return 0;
+    }
+    return 8;
+}
+
+/* A waiting count is what the other calls give on the taller table, and alters no word but its own two. */
+static int untrue_waiting(const struct call *c, const struct lent *before, const struct lent *after, bench_answer a)
+{
+    uint16_t code = bench_code(a);
+    uint32_t due;
+    if (code == 1 || code == 4 || before->table[0] == 16)
+        return 0;
+    if (code != drained(before->table, c->x[0], &due) || bench_value(a) != 0)
+        return 1;
+    return code == 0 && (due != bench_count(after->count) || memcmp(before, after, offsetof(struct lent, count)) != 0);
+}
+
+/* A refusal leaves everything as it was, a run is its steps, and a waiting count is its dequeues. */
 static int untrue(const struct call *c, const struct lent *before, const struct lent *after, bench_answer a)
 {
     static struct lent m;
     uint16_t code = bench_code(a), taken = 0;
+    if (c->kind != RUN && code != 0 && code != BENCH_ENDED && memcmp(before, after, sizeof m) != 0)
+        return 1;
     if (c->kind != RUN)
-        return code != 0 && code != BENCH_ENDED && memcmp(before, after, sizeof m) != 0;
+        return c->kind == WAITING && untrue_waiting(c, before, after, a);
     m = *before;
     bench_answer step = 0;
     while (step == 0 && taken < c->x[0] && (step = plain_step(m.table, len, m.end)) == 0)
@@ -297,11 +351,12 @@ static int try_calls(void)
     return 0;
 }
 
-/* Every refusal that docs/STEPS.md gives a call must have come, and each point gone on or ended. */
+/* Every refusal that docs/STEPS.md gives a call must have come, 10 of a waiting count by its steps too, and
+ * each point gone on or ended. */
 static int report(void)
 {
     static const uint8_t due[KINDS][8] = {{0, 1, 2}, {0, 1, 3, 4, 5, 6, 7}, {0, 1, 3, 4, 6, 8}, {0, 1, 9, 10, BENCH_ENDED},
-                                          {0, 1, 9, 10, BENCH_ENDED}, {0, 1, 4}, {0, 1, 4}, {0, 1, 4, 11, 10, 12}};
+                                          {0, 1, 9, 10, BENCH_ENDED}, {0, 1, 4}, {0, 1, 4, 8, 10}, {0, 1, 4, 11, 10, 12}};
     int missing = 0;
     for (int k = 0; k < KINDS; k++) {
         printf("%-8s", kind_names[k]);
@@ -311,6 +366,8 @@ static int report(void)
         }
         printf("\n");
     }
+    printf("waiting  10 by its steps: %llu\n", (unsigned long long)spent);
+    missing += spent == 0;
     for (int p = 1; p <= 37; p++)
         if (p != 30 && stepped[p][0] + stepped[p][2] == 0)
             printf("point %d was never stepped\n", p), missing++;

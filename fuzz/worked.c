@@ -1,4 +1,5 @@
-/* The worked runs on both sides: L 2, Q 1, N 4. Those that crates/runs proves, and some refusals. */
+/* The worked runs on both sides: L 2, Q 1, N 4. Those that crates/runs proves, some refusals, and what is
+ * waiting beside the run that is empty after 21 steps. */
 #include "../benchmark/sides.h"
 
 #include <stdio.h>
@@ -79,10 +80,25 @@ static void worked(const struct side *s)
     EXPECT(dequeue(s, 0) == 0 && dequeue(s, 1) == 8);
 }
 
+static void waits(const struct side *s, uint32_t n)
+{
+    uint16_t count[BENCH_COUNT_WORDS];
+    EXPECT(s->waiting(t, WORDS, 1, count) == 0 && bench_count(count) == n);
+}
+
+static void counted(const struct side *s)
+{
+    uint16_t count[BENCH_COUNT_WORDS];
+    fresh(s), waits(s, 0), enqueue(s, 0, 2), ends(s, 1, 0, 2, 10), waits(s, 1);
+    enqueue(s, 0, 3), steps(s, 4), waits(s, 0), dequeue(s, 1);
+    EXPECT(s->waiting(t, WORDS, 1, count) == 8 << 16);
+    ends(s, 2, 1, 0, 21), waits(s, 0), ends(s, 1, 0, 3, 11), waits(s, 2);
+}
+
 int main(void)
 {
-    worked(&plain_side);
-    worked(&our_side);
+    worked(&plain_side), counted(&plain_side);
+    worked(&our_side), counted(&our_side);
     printf("worked runs: %s\n", wrong ? "WRONG" : "as they are due, on both sides");
     return wrong != 0;
 }

@@ -29,9 +29,9 @@ enum bench_codes {
     BENCH_NO_NODE = 5,      /* no such node, or a queue's sentinel */
     BENCH_BUSY = 6,         /* this level or a higher one has not ended what it does */
     BENCH_IN_USE = 7,       /* the node's use is not 0: it was handed to a queue and has not come out */
-    BENCH_DEQUEUED = 8,     /* a lower level has not ended a dequeue of this queue */
+    BENCH_DEQUEUED = 8,     /* a lower level (waiting: any level) has not ended a dequeue of this queue */
     BENCH_NOTHING_RUNS = 9, /* no operation is begun */
-    BENCH_DAMAGED = 10,     /* the table holds what cannot be stepped or listed */
+    BENCH_DAMAGED = 10,     /* the table holds what cannot be stepped, listed or counted */
     BENCH_UNQUIET = 11,     /* listing: an operation of this queue has not ended */
     BENCH_NO_ROOM = 12,     /* listing: the room is too short */
     BENCH_ENDED = 20        /* no refusal: an operation ended */
@@ -40,6 +40,14 @@ enum bench_codes {
 /* The words of an operation's end: its op, level, queue, node (0: a dequeue that was empty), and steps. */
 enum bench_end { BENCH_END_OP, BENCH_END_LEVEL, BENCH_END_QUEUE, BENCH_END_NODE, BENCH_END_STEPS, BENCH_END_WORDS };
 enum bench_op { BENCH_ENQUEUE = 1, BENCH_DEQUEUE = 2 };
+
+/* The words of a waiting count, the low one first, and the number that they are. */
+enum bench_count_words { BENCH_COUNT_LOW, BENCH_COUNT_HIGH, BENCH_COUNT_WORDS };
+
+static inline uint32_t bench_count(const uint16_t count[BENCH_COUNT_WORDS])
+{
+    return count[BENCH_COUNT_LOW] | (uint32_t)count[BENCH_COUNT_HIGH] << 16;
+}
 
 /* Each call is lent a table, t, and its number of words, len. Above each stand its refusals, in their
  * order: the first that holds is answered, and all that was lent is as it was. */
@@ -65,8 +73,11 @@ bench_answer exports_run(uint16_t *t, size_t len, uint16_t budget, uint16_t end[
 /* 1, 4. The value is 1 if no operation of this queue runs, else 0. */
 bench_answer exports_quiet(const uint16_t *t, size_t len, uint16_t queue);
 
-/* 1, 4. The value is the number of nodes whose use names this queue: handed to it, and not come out. */
-bench_answer exports_waiting(const uint16_t *t, size_t len, uint16_t queue);
+/* 1, 4, 8, 10. How many nodes dequeues of this queue would return, begun now, one after another and
+ * uninterrupted, at one more level on top of a copy of the table, until one says empty. Code 0: the
+ * number is in `count`; with any other code `count` is as it was. 10: they met what cannot be stepped,
+ * or took (levels + 3) * (nodes + 7) * (nodes + 1) steps and none had said empty. */
+bench_answer exports_waiting(const uint16_t *t, size_t len, uint16_t queue, uint16_t count[BENCH_COUNT_WORDS]);
 
 /* 1, 4, 11, 10, 12. Writes the queue's nodes, the first to come out first, to the front of the room;
  * the value is how many they are. */

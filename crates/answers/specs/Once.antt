@@ -13,7 +13,9 @@ use Rattle.answers.specs.declared.Quiet.{Quiet}
 use Rattle.answers.specs.declared.Quiet.the-variants as quiet
 use Rattle.answers.specs.declared.Counted.{Counted}
 use Rattle.answers.specs.declared.Counted.the-variants as counted
-use Rattle.answers.specs.Said.{Said, doneSays, stepSays, runSays, quietSays, countSays}
+use Rattle.answers.specs.declared.Waiting.{Waiting}
+use Rattle.answers.specs.declared.Waiting.the-variants as waiting
+use Rattle.answers.specs.Said.{Said, doneSays, stepSays, runSays, quietSays, countSays, waitingSays}
 
 -- of a call that only reads, whatever it answers
 pub once-read : {A S : Type 0} (say : A → S) → ((a b : A) → say a ≡ say b → a ≡ b) → {x : S} {a b : A} → x ≡ say a → x ≡ say b → a ≡ b
@@ -34,11 +36,46 @@ one-step (stepped.Ended x) = elim [ stepped.GoingOn ↦ λ e. cc | stepped.Ended
 one-step (stepped.Refused x) = elim [ stepped.GoingOn ↦ λ e. cc | stepped.Ended y ↦ λ e. cc | stepped.Refused y ↦ λ e. cc ]
 
 pub one-run : (a b : Ran) → runSays a ≡ runSays b → a ≡ b
-one-run (ran.Ended x x′) = elim [ ran.Ended y y′ ↦ λ e. cc | ran.Spent y ↦ λ e. cc | ran.Idle y ↦ λ e. cc | ran.Damaged y ↦ λ e. cc | ran.Refused y ↦ λ e. cc ]
-one-run (ran.Spent x) = elim [ ran.Ended y y′ ↦ λ e. cc | ran.Spent y ↦ λ e. cc | ran.Idle y ↦ λ e. cc | ran.Damaged y ↦ λ e. cc | ran.Refused y ↦ λ e. cc ]
-one-run (ran.Idle x) = elim [ ran.Ended y y′ ↦ λ e. cc | ran.Spent y ↦ λ e. cc | ran.Idle y ↦ λ e. cc | ran.Damaged y ↦ λ e. cc | ran.Refused y ↦ λ e. cc ]
-one-run (ran.Damaged x) = elim [ ran.Ended y y′ ↦ λ e. cc | ran.Spent y ↦ λ e. cc | ran.Idle y ↦ λ e. cc | ran.Damaged y ↦ λ e. cc | ran.Refused y ↦ λ e. cc ]
-one-run (ran.Refused x) = elim [ ran.Ended y y′ ↦ λ e. cc | ran.Spent y ↦ λ e. cc | ran.Idle y ↦ λ e. cc | ran.Damaged y ↦ λ e. cc | ran.Refused y ↦ λ e. cc ]
+one-run (ran.Ended x x′) =
+    elim [
+      | ran.Ended y y′ ↦ λ e. cc
+      | ran.Spent y ↦ λ e. cc
+      | ran.Idle y ↦ λ e. cc
+      | ran.Damaged y ↦ λ e. cc
+      | ran.Refused y ↦ λ e. cc
+    ]
+one-run (ran.Spent x) =
+    elim [
+      | ran.Ended y y′ ↦ λ e. cc
+      | ran.Spent y ↦ λ e. cc
+      | ran.Idle y ↦ λ e. cc
+      | ran.Damaged y ↦ λ e. cc
+      | ran.Refused y ↦ λ e. cc
+    ]
+one-run (ran.Idle x) =
+    elim [
+      | ran.Ended y y′ ↦ λ e. cc
+      | ran.Spent y ↦ λ e. cc
+      | ran.Idle y ↦ λ e. cc
+      | ran.Damaged y ↦ λ e. cc
+      | ran.Refused y ↦ λ e. cc
+    ]
+one-run (ran.Damaged x) =
+    elim [
+      | ran.Ended y y′ ↦ λ e. cc
+      | ran.Spent y ↦ λ e. cc
+      | ran.Idle y ↦ λ e. cc
+      | ran.Damaged y ↦ λ e. cc
+      | ran.Refused y ↦ λ e. cc
+    ]
+one-run (ran.Refused x) =
+    elim [
+      | ran.Ended y y′ ↦ λ e. cc
+      | ran.Spent y ↦ λ e. cc
+      | ran.Idle y ↦ λ e. cc
+      | ran.Damaged y ↦ λ e. cc
+      | ran.Refused y ↦ λ e. cc
+    ]
 
 pub one-quiet : (a b : Quiet) → quietSays a ≡ quietSays b → a ≡ b
 one-quiet quiet.Yes = elim [ quiet.Yes ↦ λ e. cc | quiet.No ↦ λ e. cc | quiet.Refused y ↦ λ e. cc ]
@@ -49,9 +86,13 @@ pub one-count : (a b : Counted) → countSays a ≡ countSays b → a ≡ b
 one-count (counted.Are x) = elim [ counted.Are y ↦ λ e. cc | counted.Refused y ↦ λ e. cc ]
 one-count (counted.Refused x) = elim [ counted.Are y ↦ λ e. cc | counted.Refused y ↦ λ e. cc ]
 
+pub one-waiting : (a b : Waiting) → waitingSays a ≡ waitingSays b → a ≡ b
+one-waiting (waiting.Are x) = elim [ waiting.Are y ↦ λ e. cc | waiting.Refused y ↦ λ e. cc ]
+one-waiting (waiting.Refused x) = elim [ waiting.Are y ↦ λ e. cc | waiting.Refused y ↦ λ e. cc ]
+
 -- of `quiet` and `waiting`
 pub one-quiet-answer : {x : Said Bool} {a b : Quiet} → x ≡ quietSays a → x ≡ quietSays b → a ≡ b
 one-quiet-answer p q = once-read quietSays one-quiet p q
 
-pub one-waiting-answer : {x : Said ℕ} {a b : Counted} → x ≡ countSays a → x ≡ countSays b → a ≡ b
-one-waiting-answer p q = once-read countSays one-count p q
+pub one-waiting-answer : {x : Said ℕ} {a b : Waiting} → x ≡ waitingSays a → x ≡ waitingSays b → a ≡ b
+one-waiting-answer p q = once-read waitingSays one-waiting p q

@@ -12,6 +12,8 @@ use Rattle.answers.specs.declared.Quiet.{Quiet}
 use Rattle.answers.specs.declared.Quiet.the-variants as quiet
 use Rattle.answers.specs.declared.Counted.{Counted}
 use Rattle.answers.specs.declared.Counted.the-variants as counted
+use Rattle.answers.specs.declared.Waiting.{Waiting}
+use Rattle.answers.specs.declared.Waiting.the-variants as waiting
 
 -- a refusal's number, or what is answered
 pub data Said (A : Type 0) : Type 0 where
@@ -59,3 +61,7 @@ quietSays (quiet.Refused r) = refused r
 abbrev pub countSays : Counted → Said ℕ
 countSays (counted.Are n) = says n
 countSays (counted.Refused r) = refused r
+
+abbrev pub waitingSays : Waiting → Said ℕ
+waitingSays (waiting.Are n) = says n
+waitingSays (waiting.Refused r) = refused r

@@ -43,3 +43,9 @@ pub enum Counted {
     Are(u16),
     Refused(u16),
 }
+
+// How many nodes wait. That they are never more than the table's nodes, damaged or not, is not shown; 32 bits hold any count.
+pub enum Waiting {
+    Are(u32),
+    Refused(u16),
+}

@@ -12,24 +12,15 @@ use lib.ListN.{length, set, length-set}
 use lib.Seq.{sets, sets-eq}
 use lib.Dec.{ltb, eqb}
 use borrow.Author.Tests.{ltb-false, ltb-true, eqb-true, eqb-false, eq-eqb, ne-eqb, lt-ltb, le-ltb}
-use Rattle.words.specs.declared.Queue.{Queue}
 use Rattle.words.specs.declared.Sizes.{Sizes}
 use Rattle.words.specs.declared.Word.the-variants.{Next}
 use Rattle.words.specs.Layout.{node, has, rd}
 use Rattle.words.specs.Laws.{Bound, has-is}
 use Rattle.asks.specs.declared.Chain.{Chain}
 use Rattle.asks.specs.declared.Chain.the-variants.{Ends, Broken}
-use Rattle.asks.specs.Waiting.{named, waiting}
 use Rattle.answers.specs.Said.{refused, says}
 use Rattle.asks.specs.Listing.{before, chain, nodesFrom, listed}
 use Rattle.asks.specs.Inner.{weight, counted, RoomFor, written, put}
-
--- ---- the waiting count
-
-pub waiting-more : (s : Sizes) (t : List ℕ) (q : Queue) (i n k : ℕ) → n ≡ waiting s t q i → k ≡ named s t q (i + 1)
-    → n + k ≡ waiting s t q (i + 1)
-unfolding waiting
-waiting-more s t q i n k a b = rw (a, b, add-one)
 
 -- ---- the chain
 

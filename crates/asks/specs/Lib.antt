@@ -1,5 +1,4 @@
 pub mod Quiet
-pub mod Waiting
 pub mod Listing
 pub mod Inner
 pub mod Laws

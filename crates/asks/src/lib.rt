@@ -1,4 +1,4 @@
-// What the table is asked: whether a queue is quiet, how many nodes wait, and which.
+// What the table is asked: whether a queue is quiet, and which nodes are in it.
 ghost use mathlib.Core.Path.{_≡_};
 ghost use mathlib.Core.Bool.{true};
 ghost use Prim.Native.Nat.{_+_, _≤_};
@@ -9,7 +9,6 @@ ghost use Rattle.words.specs.Layout.{has};
 ghost use Rattle.words.specs.Inner.{Fits};
 ghost use Rattle.answers.specs.Said.{quietSays, countSays};
 ghost use Rattle.asks.specs.Quiet.{quietOf};
-ghost use Rattle.asks.specs.Waiting.{named, waiting, waitingOf};
 ghost use Rattle.asks.specs.Listing.{chain, nodesOf, listed, listingSized, listingOf};
 ghost use Rattle.asks.specs.Inner.{weight, counted, RoomFor, written, put};
 use answers::Counted;
@@ -31,48 +30,6 @@ pub fn quiet(t: &[u16], q: Queue) -> answers::Quiet
                 answers::Quiet::No
             } else {
                 answers::Quiet::Yes
-            }
-        }
-    }
-}
-
-// 1 where the use of node i names the queue.
-fn names(t: &[u16], s: Sizes, q: Queue, i: usize) -> u16
-    requires { ⌜ Fits s (now t) ⌝ }
-    requires { ⌜ (1 ≤ i) × (i ≤ s .nodes) ⌝ }
-    ensures { λ r. ⌜ r ≡ named s (now (t .entry)) q i ⌝ }
-    ensures { λ r. ⌜ r ≤ 1 ⌝ }
-{
-    if words::load(t, s, Word::Use(Node(i as u16))) == q.0 {
-        1
-    } else {
-        0
-    }
-}
-
-fn count_waiting(t: &[u16], s: Sizes, q: Queue) -> u16
-    requires { ⌜ Fits s (now t) ⌝ }
-    ensures { λ r. ⌜ r ≡ waiting s (now (t .entry)) q (s .nodes) ⌝ }
-{
-    let mut i = 0;
-    let mut n = 0;
-    while i < s.nodes {
-        i += 1;
-        n += names(t, s, q, i);
-    }
-    n
-}
-
-pub fn waiting(t: &[u16], q: Queue) -> Counted
-    ensures { λ r. ⌜ waitingOf (now (t .entry)) q ≡ countSays r ⌝ }
-{
-    match words::measure(t) {
-        Measured::Unfit => Counted::Refused(1),
-        Measured::Sized(s) => {
-            if conditions::no_queue(s, q) {
-                Counted::Refused(4)
-            } else {
-                Counted::Are(count_waiting(t, s, q))
             }
         }
     }

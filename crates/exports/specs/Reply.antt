@@ -1,5 +1,5 @@
 -- What the calls answer to a caller in C: one number, a value and 65,536 times a code, and the words of an operation's end.
-use Prim.Native.Nat.{ℕ, _+_, _*_}
+use Prim.Native.Nat.{ℕ, _+_, _*_, _/_, _%_}
 use mathlib.Core.List.{List, [], _∷_}
 use mathlib.Core.Bool.{Bool, true, false}
 use Rattle.answers.specs.declared.End.{End}
@@ -48,6 +48,10 @@ quietReply x = reply quietValue x
 abbrev pub countReply : Said ℕ → ℕ
 countReply x = reply (λ n. packed n 0) x
 
+-- the count is in two words of its own
+abbrev pub waitingReply : Said ℕ → ℕ
+waitingReply x = reply (λ _. packed 0 0) x
+
 -- ---- the words of an operation's end, which stay as they were where none ended
 
 abbrev pub endWords : End → List ℕ
@@ -68,7 +72,13 @@ abbrev pub runEnd : Said Run → List ℕ → List ℕ
 runEnd (refused r) w = w
 runEnd (says (after n why)) w = whyEnd why w
 
--- ---- what a call gives: its answer, what it was lent, and the end's words
+-- ---- the two words of the waiting count, low first, which stay as they were at a refusal
+
+abbrev pub countWords : Said ℕ → List ℕ → List ℕ
+countWords (refused r) w = w
+countWords (says n) w = n % 65536 ∷ n / 65536 ∷ []
+
+-- ---- what a call gives: its answer, what it was lent, and the words beside
 
 abbrev pub doneOut : Said Unit × List ℕ → ℕ × List ℕ
 doneOut x = (doneReply (x .0), x .1)
@@ -81,3 +91,6 @@ runOut x w = (runReply (x .0), (x .1, runEnd (x .0) w))
 
 abbrev pub countOut : Said ℕ × List ℕ → ℕ × List ℕ
 countOut x = (countReply (x .0), x .1)
+
+abbrev pub waitingOut : Said ℕ → List ℕ → ℕ × List ℕ
+waitingOut x w = (waitingReply x, countWords x w)

@@ -1,14 +1,14 @@
 // The calls for a caller in C.
 ghost use mathlib.Core.Path.{_≡_};
 ghost use Rattle.words.specs.Layout.{level, queue, node};
-ghost use Rattle.answers.specs.Said.{doneSays, stepSays, runSays, quietSays, countSays};
+ghost use Rattle.answers.specs.Said.{doneSays, stepSays, runSays, quietSays, countSays, waitingSays};
 ghost use Rattle.fresh.specs.Fresh.{freshOf};
 ghost use Rattle.begins.specs.Begin.{enqueueOf, dequeueOf};
 ghost use Rattle.steps.specs.Step.{stepOf};
 ghost use Rattle.steps.specs.Run.{runOf};
 ghost use Rattle.asks.specs.Quiet.{quietOf};
-ghost use Rattle.asks.specs.Waiting.{waitingOf};
 ghost use Rattle.asks.specs.Listing.{listingOf};
+ghost use Rattle.waiting.specs.Waiting.{waitingOf};
 ghost use Rattle.exports.specs.Reply.{
   packed,
   doneReply,
@@ -16,13 +16,16 @@ ghost use Rattle.exports.specs.Reply.{
   runReply,
   quietReply,
   countReply,
+  waitingReply,
   endWords,
   stepEnd,
   runEnd,
+  countWords,
   doneOut,
   stepOut,
   runOut,
   countOut,
+  waitingOut,
 };
 use answers::Counted;
 use answers::Done;
@@ -30,6 +33,7 @@ use answers::End;
 use answers::Quiet;
 use answers::Ran;
 use answers::Stepped;
+use answers::Waiting;
 use words::Level;
 use words::Node;
 use words::Queue;
@@ -91,6 +95,15 @@ fn pack_count(a: Counted) -> u32
     }
 }
 
+fn pack_waiting(a: Waiting) -> u32
+    ensures { λ r. ⌜ r ≡ waitingReply (waitingSays a) ⌝ }
+{
+    match a {
+        Waiting::Are(_) => pack(0, 0),
+        Waiting::Refused(r) => pack(0, r),
+    }
+}
+
 fn put_end(end: &mut [u16; 5], e: End)
     ensures { λ _. ⌜ now (end .exit) ≡ endWords e ⌝ }
 {
@@ -116,6 +129,16 @@ fn put_run_end(end: &mut [u16; 5], a: Ran)
         Ran::Idle(_) => {}
         Ran::Damaged(_) => {}
         Ran::Refused(_) => {}
+    }
+}
+
+// The two words of a count, low first.
+fn put_count(count: &mut [u16; 2], a: Waiting)
+    ensures { λ _. ⌜ now (count .exit) ≡ countWords (waitingSays a) (now (count .entry)) ⌝ }
+{
+    match a {
+        Waiting::Are(n) => *count = [(n % 65536) as u16, (n / 65536) as u16],
+        Waiting::Refused(_) => {}
     }
 }
 
@@ -166,10 +189,12 @@ pub extern "C" fn exports_quiet(t: &[u16], q: u16) -> u32
 }
 
 #[no_mangle]
-pub extern "C" fn exports_waiting(t: &[u16], q: u16) -> u32
-    ensures { λ r. ⌜ countReply (waitingOf (now (t .entry)) (queue q)) ≡ r ⌝ }
+pub extern "C" fn exports_waiting(t: &[u16], q: u16, count: &mut [u16; 2]) -> u32
+    ensures { λ r. ⌜ waitingOut (waitingOf (now (t .entry)) (queue q)) (now (count .entry)) ≡ (r, now (count .exit)) ⌝ }
 {
-    pack_count(asks::waiting(t, Queue(q)))
+    let a = waiting::waiting(t, Queue(q));
+    put_count(count, a);
+    pack_waiting(a)
 }
 
 #[no_mangle]
