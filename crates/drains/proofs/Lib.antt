@@ -1,0 +1,10 @@
+pub mod Begins
+pub mod Empty
+pub mod Drain
+pub mod Lift
+pub mod Paid
+pub mod Raised
+pub mod Users
+pub mod Stuck
+pub mod Theorems
+pub mod Examples

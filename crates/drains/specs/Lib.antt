@@ -1,0 +1,3 @@
+pub mod Naming
+pub mod Drains
+pub mod Examples

@@ -1,0 +1,1 @@
+// Who is stuck: on every table reached from fresh the waiting count is answered, and what it is. Theory only.
