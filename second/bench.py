@@ -9,6 +9,8 @@ follow, previous_interrupt_level and find_anchor stand below as they are printed
     second/bench.py --bounds [FILE] the bounds log: an E line ends with the bound on its steps
     second/bench.py --check DIR     hold DIR/stdin, a packed file of schedules, to DIR/stdout, their logs
     second/bench.py --write DIR     make DIR/stdout (what the packed files look like: crates/corpus/README.md)
+    second/bench.py --waiting FILE  hold each line of FILE, a queue, what a waiting count of it answered (code and
+                                    count) and the words of the table, to the waiting count below
 """
 
 import re
@@ -319,6 +321,17 @@ class Bench:
                 words.append(enqueue_most(top.level, self.nodes))
             self.log.append(" ".join(map(str, words)))
 
+    def words(self):
+        """The table in words; of a frame only the op and the queue, the rest being in the generators."""
+        memory, frames = self.memory, [[0] * 11 for _ in range(self.levels)]
+        for each in self.running:
+            frames[each.level][0], frames[each.level][2] = {"E": 1, "D": 2}[each.letter], each.queue
+        levels = zip(memory.global_level_node, memory.global_level_queue)
+        queues = [(each.head, each.tail) for each in self.queues.values()]
+        nodes = [*zip(memory.next, memory.use)][1:]
+        parts = [[len(part), *(word for each in part for word in each)] for part in ([*levels], queues, nodes, frames)]
+        return [word for part in parts for word in part]
+
     def show(self, queue):
         if any(each.queue == queue for each in self.running):
             return f"U {queue}"
@@ -346,6 +359,80 @@ def log_of(text, bounds=False):
             break
     bench.log += [bench.show(queue) for queue in bench.queues]
     return "".join(line + "\n" for line in bench.log).encode()
+
+
+# ---------------------------------------------------------------------------------------------------
+# The waiting count, asked of a table's words, which may be anything.
+
+
+def sections(words):
+    """The levels, queues, nodes and frames of a table, each a list of their words; none if it is no table."""
+    at, parts = 0, []
+    for width, most in ((2, 16), (2, 8), (2, 1024), (11, 16)):
+        if at >= len(words) or not 1 <= words[at] <= most:
+            return None
+        start, at = at + 1, at + 1 + width * words[at]
+        parts.append([words[place : place + width] for place in range(start, at, width)])
+    levels, queues, nodes, frames = parts
+    return parts if at <= len(words) and len(queues) <= len(nodes) and len(levels) == len(frames) else None
+
+
+class CopiedQueue(Queue):
+    """A queue in a copy of the table with one more idle level on top. To ask for the next of what is no node is a KeyError."""
+
+    def __init__(self, number, levels, queues, nodes):
+        memory = Memory(len(levels) + 1, len(nodes))
+        memory.global_level_node[:-1] = [node for node, _ in levels]
+        memory.global_level_queue[:-1] = [queue for _, queue in levels]
+        memory.next = {node: following for node, (following, _) in enumerate(nodes, 1)}
+        super().__init__(memory, number)
+        self.head, self.tail = queues[number - 1]
+
+    def find_anchor(self, level, node):
+        anchor = yield from super().find_anchor(level, node)
+        if anchor == 0 and self.tail == 0:  # the paper looks at no node then; the bench's table asks for the next of tail
+            raise KeyError(self.tail)
+        return anchor
+
+
+def drained(queue, level, most):
+    """How many nodes dequeues return, begun one after another, until one says empty; none if that takes more steps."""
+    count, dequeue = 0, Operation("D", level, queue.this, 0, queue.P(level))
+    for _ in range(most):
+        try:
+            next(dequeue.code)
+        except StopIteration as ended:
+            if ended.value == 0:
+                return count
+            count, dequeue = count + 1, Operation("D", level, queue.this, 0, queue.P(level))
+    return None
+
+
+def waiting(words, queue):
+    """The waiting count of a queue: (0, count), or its refusal and 0."""
+    table = sections(words)
+    if table is None:
+        return 1, 0
+    levels, queues, nodes, frames = table
+    if not 1 <= queue <= len(queues):
+        return 4, 0
+    if any(frame[0] == 2 and frame[2] == queue for frame in frames):
+        return 8, 0
+    most = (len(levels) + 3) * (len(nodes) + 7) * (len(nodes) + 1)
+    try:
+        count = drained(CopiedQueue(queue, levels, queues, nodes), len(levels), most)
+    except KeyError:
+        return 10, 0
+    return (10, 0) if count is None else (0, count)
+
+
+def check_waiting(path):
+    with open(path) as file:
+        lines = [[int(word) for word in line.split(" ")] for line in file]
+    for at, (queue, code, count, *words) in enumerate(lines, 1):
+        if waiting(words, queue) != (code, count):
+            sys.exit(f"{path}, line {at}: a waiting count of {(code, count)}, second/bench.py has {waiting(words, queue)}")
+    print(f"{len(lines)} waiting counts agree")
 
 
 # ---------------------------------------------------------------------------------------------------
@@ -400,8 +487,9 @@ def write(folder):
 
 
 def main(words):
-    if len(words) == 2 and words[0] in ("--check", "--write"):
-        return {"--check": check, "--write": write}[words[0]](words[1])
+    whole = {"--check": check, "--write": write, "--waiting": check_waiting}
+    if len(words) == 2 and words[0] in whole:
+        return whole[words[0]](words[1])
     bounds = words[:1] == ["--bounds"]
     files = words[bounds:]
     if len(files) > 1 or files and files[0].startswith("-"):

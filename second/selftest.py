@@ -1,15 +1,16 @@
 #!/usr/bin/env python3
-"""Holds second/bench.py to the worked runs; examples/README.md, docs/SCHEDULE.md and docs/BOUNDS.md to second/bench.py; and
-examples/tries/README.md and docs/TRIES.md to second/tries.py.
+"""Holds second/bench.py to the worked runs and to what is claimed of waiting counts; examples/README.md, docs/SCHEDULE.md and
+docs/BOUNDS.md to second/bench.py; and examples/tries/README.md and docs/TRIES.md to second/tries.py.
 
     second/selftest.py
 """
 
 import os
+import random
 import re
 import sys
 
-from bench import log_of
+from bench import Bench, log_of, read_schedule, waiting
 
 HERE = os.path.dirname(os.path.abspath(__file__))
 
@@ -38,6 +39,21 @@ BOUNDED = [
     ("dequeue-in-between", "E 0 1 2, S 6, E 1 1 3, S 16, D 1 1, S 28, D 1 1, S 2, S 4",
      "E 1 1 3 16 30, D 1 1 3 28, D 1 1 0 2, E 0 1 2 10 20, Q 1 2"),
 ]
+
+# Waiting counts of queue 1, for the same sizes: events, words that are then changed, the answer, and how many nodes' use is queue 1.
+COUNTS = [
+    ("nothing-in", "", {}, (0, 0), 0),
+    ("quiet", "E 0 1 2, S 10, E 0 1 3, S 10, E 1 1 4, S 11", {}, (0, 3), 3),
+    ("stuck", "E 0 1 2, S 10, E 0 1 3, S 4", {}, (0, 0), 2),
+    ("no-longer-stuck", "E 0 1 2, S 10, E 0 1 3, S 4, D 1 1, S 21, S 7", {}, (0, 2), 2),
+    ("dequeue-not-ended", "E 0 1 2, S 10, D 0 1, S 3", {}, (8, 0), 1),
+    ("next-of-2-is-no-node", "E 0 1 2, S 10, E 0 1 3, S 10", {11: 5}, (10, 0), 2),
+    ("next-of-2-is-2", "E 0 1 2, S 10", {11: 2}, (10, 0), 1),
+    ("another-count-of-levels", "", {0: 3}, (1, 0), 0),
+]
+
+# The random ways on which waiting counts are tried: how many, and the events of each.
+WAYS = 300, 25
 
 
 def schedule(sizes, events):
@@ -89,6 +105,72 @@ def differing_tries():
             yield f"examples/tries/{name}.schedule {option}: {got!r}"
 
 
+def after(sizes, events):
+    """A table after these events, whether they are refused or not."""
+    bench = Bench(*sizes)
+    for event in events:
+        bench.perform(*event)
+    return bench
+
+
+def random_ways(ways, length):
+    """Sizes and events, made up at random and always the same."""
+    chance = random.Random(201)
+    for _ in range(ways):
+        levels, queues = chance.choice((1, 2, 4, 6, 16)), chance.choice((1, 1, 2))
+        nodes = queues + chance.randint(2, 7)
+        events = {
+            "E": lambda: (chance.randrange(levels), chance.randint(1, queues), chance.randint(queues + 1, nodes)),
+            "D": lambda: (chance.randrange(levels), chance.randint(1, queues)),
+            "S": lambda: (chance.choice((2, 4, 5, 6, 30)),),
+        }
+        yield (levels, queues, nodes), [(letter, *events[letter]()) for letter in chance.choices("EEEDSSS", k=length)]
+
+
+def dequeues(bench, level, queue):
+    """How many nodes dequeues return that are made at this level of the table itself, until one says empty."""
+    count = 0
+    while True:
+        assert bench.begin_dequeue(level, queue) == 0
+        while bench.running and bench.running[-1].level == level:
+            bench.step()
+        if bench.log[-1].split(" ")[3] == "0":
+            return count
+        count += 1
+
+
+def wrong_count(sizes, events, queue):
+    """Whether the waiting count after these events is not what is claimed of it: 8 over a dequeue of the queue; else a number, that of
+    the listing where the queue is quiet, never more than were handed in, and what dequeues return at each level above those that run."""
+    bench = after(sizes, events)
+    code, count = waiting(bench.words(), queue)
+    letters = [each.letter for each in bench.running if each.queue == queue]
+    if "D" in letters:
+        return code != 8
+    idle = range(bench.running[-1].level + 1 if bench.running else 0, bench.levels)
+    return (
+        code != 0
+        or count > bench.memory.use.count(queue)
+        or not letters and count != len(bench.show(queue).split(" ")) - 2
+        or any(count != dequeues(after(sizes, events), level, queue) for level in idle)
+    )
+
+
+def differing_counts():
+    for name, events, changed, answer, handed_in in COUNTS:
+        bench = after(*read_schedule(schedule("2 1 4", events)))
+        words = bench.words()
+        for at, word in changed.items():
+            words[at] = word
+        if (waiting(words, 1), bench.memory.use.count(1)) != (answer, handed_in):
+            yield f"{name}: a waiting count of {waiting(words, 1)}"
+    for sizes, events in random_ways(*WAYS):
+        for end in range(len(events) + 1):
+            for queue in range(1, sizes[1] + 1):
+                if wrong_count(sizes, events[:end], queue):
+                    yield f"the waiting count of queue {queue} on {sizes} after {events[:end]}"
+
+
 def differing():
     for bounds, runs in ((False, RUNS), (True, BOUNDED)):
         for name, events, log in runs:
@@ -114,7 +196,8 @@ def differing():
 
 
 if __name__ == "__main__":
-    wrong = [*differing(), *differing_tries()]
+    wrong = [*differing(), *differing_counts(), *differing_tries()]
     if wrong:
         sys.exit("\n".join(wrong))
     print(f"{len(RUNS) + len(BOUNDED)} worked runs, {len(examples())} examples, {len(texts())} texts and {len(tried())} tasks agree")
+    print(f"{len(COUNTS)} waiting counts agree, and those of {WAYS[0]} random ways are as claimed")
