@@ -24,9 +24,9 @@ enum { SAMPLES = 25, ENOUGH = 65535, SAMPLE_NS = 4000000 };
 static uint16_t start[BENCH_MOST_WORDS], t[BENCH_MOST_WORDS];
 static size_t len;
 
-/* What a side did: steps, and a sum over every answer. */
+/* What a side did: how many of what its time is told for, steps or calls, and a sum over every answer. */
 struct done {
-    uint64_t steps, sum;
+    uint64_t units, sum;
 };
 
 static void add(struct done *d, uint64_t x) { d->sum = d->sum * 31 + x; }
@@ -35,7 +35,7 @@ static void add_end(struct done *d, const uint16_t end[BENCH_END_WORDS])
 {
     for (int i = 0; i < BENCH_END_WORDS; i++)
         add(d, end[i]);
-    d->steps += end[BENCH_END_STEPS];
+    d->units += end[BENCH_END_STEPS];
 }
 
 static void fail(const char *what)
@@ -97,6 +97,22 @@ static void prepare_e19(unsigned nodes)
     put(0, 2, 2);
     put(1, 3, 2);
     put_all(2, 4, nodes);
+}
+
+/* So many nodes are in, and nothing runs. */
+static void prepare_in(unsigned nodes)
+{
+    sized(2, 1, nodes + 1);
+    put_all(0, 2, nodes + 1);
+}
+
+/* So many nodes are in, and above each other seven enqueues have stopped after five steps. */
+static void prepare_stopped(unsigned nodes)
+{
+    sized(8, 1, nodes + 8);
+    put_all(0, 2, nodes + 1);
+    for (unsigned l = 0; l < 7; l++)
+        put(l, nodes + 2 + l, 5);
 }
 
 static void prepare_pairs(unsigned nodes) { sized(1, 1, nodes); }
@@ -184,6 +200,15 @@ static void nested_by_run(const struct side *s, struct done *d)
         finish(s, d);
 }
 
+static void count_waiting(const struct side *s, struct done *d)
+{
+    uint16_t count[BENCH_COUNT_WORDS];
+    if (s->waiting(t, len, 1, count) != 0)
+        fail("a waiting count was refused");
+    add(d, bench_count(count));
+    d->units++;
+}
+
 struct work {
     const char *name;
     void (*prepare)(unsigned size);
@@ -207,17 +232,17 @@ static double sample(const struct work *w, const struct side *s, unsigned reps, 
     double began = now_ns();
     for (unsigned i = 0; i < reps; i++)
         w->rep(s, d);
-    return (now_ns() - began) / (double)d->steps;
+    return (now_ns() - began) / (double)d->units;
 }
 
-/* The best ns per step of each side, all taking turns. */
+/* The best ns per unit of each side, all taking turns. */
 static void measure(const struct work *w, double best[SIDES])
 {
     static uint16_t left[BENCH_MOST_WORDS];
     struct done first, d;
     w->prepare(w->size);
     unsigned reps = 1;
-    while (sample(w, &sides[0], reps, &first) * (double)first.steps < SAMPLE_NS)
+    while (sample(w, &sides[0], reps, &first) * (double)first.units < SAMPLE_NS)
         reps *= 2;
     for (int i = 0; i < SIDES; i++)
         best[i] = 1e30;
@@ -227,7 +252,7 @@ static void measure(const struct work *w, double best[SIDES])
             best[i] = x < best[i] ? x : best[i];
             if (i == 0 && n == 0)
                 first = d, memcpy(left, t, sizeof t);
-            if (d.sum != first.sum || d.steps != first.steps || memcmp(left, t, sizeof t) != 0)
+            if (d.sum != first.sum || d.units != first.units || memcmp(left, t, sizeof t) != 0)
                 fail("the sides do not agree");
         }
     }
@@ -250,9 +275,21 @@ static void keep_ratio(const char *path, double ratio)
         fail("the ratio cannot be kept");
 }
 
+static void compare_works(const char *unit, const struct work *works, size_t count, const char *ratios)
+{
+    printf("%-50s %8s %8s %7s  %s\n", unit, "C", sides[OURS].name, "ratio", "the fastest C");
+    for (size_t i = 0; i < count; i++) {
+        double best[SIDES];
+        measure(&works[i], best);
+        int c = fastest(best);
+        printf("%-50s %8.2f %8.2f %7.2f  %s\n", works[i].name, best[c], best[OURS], best[OURS] / best[c], sides[c].name);
+        keep_ratio(ratios, best[OURS] / best[c]);
+    }
+}
+
 static void compare(const char *ratios)
 {
-    static const struct work works[] = {
+    static const struct work steps[] = {
         {"(a) a walk at E10, 1,022 nodes", prepare_e10, walk, 1024},
         {"(a) a walk at E16, 1,020 nodes", prepare_e16, walk_e16, 1024},
         {"(a) a walk at E19, 1,021 nodes", prepare_e19, walk, 1024},
@@ -261,14 +298,14 @@ static void compare(const char *ratios)
         {"(c) 16 levels nested, by step", prepare_nested, nested_by_step, 16},
         {"(c) 16 levels nested, begun by step, then by run", prepare_nested, nested_by_run, 16},
     };
-    printf("%-50s %8s %8s %7s  %s\n", "ns per step", "C", sides[OURS].name, "ratio", "the fastest C");
-    for (size_t i = 0; i < sizeof works / sizeof *works; i++) {
-        double best[SIDES];
-        measure(&works[i], best);
-        int c = fastest(best);
-        printf("%-50s %8.2f %8.2f %7.2f  %s\n", works[i].name, best[c], best[OURS], best[OURS] / best[c], sides[c].name);
-        keep_ratio(ratios, best[OURS] / best[c]);
-    }
+    static const struct work calls[] = {
+        {"(e) waiting count, 10 nodes in", prepare_in, count_waiting, 10},
+        {"(e) waiting count, 100 nodes in", prepare_in, count_waiting, 100},
+        {"(e) waiting count, 1,000 nodes in", prepare_in, count_waiting, 1000},
+        {"(e) waiting count, 100 in, 7 enqueues stopped", prepare_stopped, count_waiting, 100},
+    };
+    compare_works("ns per step", steps, sizeof steps / sizeof *steps, ratios);
+    compare_works("ns per call", calls, sizeof calls / sizeof *calls, ratios);
     printf("the answers and tables of all sides agreed throughout\n");
 }
 
