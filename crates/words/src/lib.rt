@@ -1,4 +1,6 @@
 // The lent table: its sizes, its words by name, and its frames. No other crate knows where a word stands.
+#![tactic(auto)]
+
 ghost use Rattle.std.specs.Prelude.{◌≡◌, true, ◌+◌, ◌-◌, ◌≤◌, ◌<◌, length, get_or, drop};
 ghost use Rattle.std.proofs.Math.Seq.{paste};
 ghost use Rattle.words.specs.Layout.{
@@ -23,30 +25,30 @@ ghost use Rattle.words.specs.Inner.{Small, Fits, Placed};
 ghost use Rattle.words.specs.declared.Measured.TheVariants.{Sized};
 
 // A level, a queue and a node: three kinds of number.
-#[derive(Drop)]
+#[derive(Clone, Copy)]
 pub struct Level(pub u16);
 
-#[derive(Drop)]
+#[derive(Clone, Copy)]
 pub struct Queue(pub u16);
 
-#[derive(Drop)]
+#[derive(Clone, Copy)]
 pub struct Node(pub u16);
 
-#[derive(Drop)]
+#[derive(Clone, Copy)]
 pub struct Sizes {
     pub levels: usize,
     pub queues: usize,
     pub nodes: usize,
 }
 
-#[derive(Drop)]
+#[derive(Clone, Copy)]
 pub enum Measured {
     Sized(Sizes),
     Unfit,
 }
 
 // A word of the table that is no count and no frame's.
-#[derive(Drop)]
+#[derive(Clone, Copy)]
 pub enum Word {
     LevelNode(Level),
     LevelQueue(Level),
@@ -56,7 +58,7 @@ pub enum Word {
     Use(Node),
 }
 
-#[derive(Drop)]
+#[derive(Clone, Copy)]
 pub struct Frame {
     pub op: u16,
     pub point: u16,
