@@ -18,7 +18,7 @@ use Rattle.table.specs.Points.{Point, number_of, point_of, E1, E2, E3, E4, E5, E
 use Rattle.table.specs.Points.{E16, E17, E18, E19, E20, E21, E22, E23, E24, E25, E26, E27, E28, E29, D1, D2, D3, D4, D5}
 use Rattle.table.specs.Points.{D6, D7, Unknown}
 use Rattle.table.specs.Laws.{point_is}
-use Rattle.table.specs.Frames.{if_eq, below_kto, below_mto, walk_to, set_c}
+use Rattle.table.specs.Frames.{if_eq, below_k_to, below_m_to, walk_to, set_c}
 use Rattle.table.specs.Table.{row}
 use Rattle.table.specs.declared.After.{After}
 use Rattle.table.specs.declared.After.TheVariants.{Go, Done}
@@ -89,14 +89,14 @@ module _ (T : Turn) (v w s₀ : ℕ) (w= : w ≡ v + 6) (few : (xs : List ℕ) �
   e1_pays at S x i b b' h d s (g, u) = to E2 refl (g, omega arith)
 
   e2_pays : Case E2
-  unfolding row below_kto
+  unfolding row below_k_to
   e2_pays at S x i b b' h d s (g, u) =
       by_eq (λ e. to E7 refl (g, omega arith)) (λ e. to E3 refl (g, omega (arith, down l w e)))
 
   -- below k, with the level k paid for
   next_k : {M' : Mem} → M'.head q ≡ M.head q → (f.op ≡ 2 → M.head q ≢ q)
-      → s₀ + (f.k.0 * w + w) ≤ base f.op + l * w + 5 → Fine M' (below_kto 7 3 f)
-  unfolding below_kto
+      → s₀ + (f.k.0 * w + w) ≤ base f.op + l * w + 5 → Fine M' (below_k_to 7 3 f)
+  unfolding below_k_to
   next_k e g u =
       by_eq (λ i. to E7 refl (rw e g, omega arith)) (λ i. to E3 refl (rw e g, omega (arith, down f.k.0 w i)))
 
@@ -109,7 +109,7 @@ module _ (T : Turn) (v w s₀ : ℕ) (w= : w ≡ v + 6) (few : (xs : List ℕ) �
   e4_pays at S x i b b' h d s (g, u) = to E5 refl (g, omega arith)
 
   e5_pays : Case E5
-  unfolding row below_mto
+  unfolding row below_m_to
   e5_pays at S x i b b' h d s (g, u) = by_eq (λ e. to E6 refl (g, omega arith))
       (λ e. by_eq (λ j. to E15 refl (g, omega arith)) (λ j. to E13 refl (g, omega (arith, down f.k.0 w j))))
 
@@ -192,8 +192,8 @@ module _ (T : Turn) (v w s₀ : ℕ) (w= : w ≡ v + 6) (few : (xs : List ℕ) �
   -- ---- E13 to E16
 
   -- below m, with the level m paid for
-  next_m : (f.op ≡ 2 → M.head q ≢ q) → s₀ + (f.m.0 * w + w) ≤ base f.op + l * w → (c : ℕ) → Fine M (below_mto 15 13 (set_c c f))
-  unfolding below_mto
+  next_m : (f.op ≡ 2 → M.head q ≢ q) → s₀ + (f.m.0 * w + w) ≤ base f.op + l * w → (c : ℕ) → Fine M (below_m_to 15 13 (set_c c f))
+  unfolding below_m_to
   next_m g u c = by_eq (λ i. to E15 refl (g, omega arith)) (λ i. to E13 refl (g, omega (arith, down f.m.0 w i)))
 
   e13_pays : Case E13

@@ -11,7 +11,7 @@ use Rattle.words.specs.declared.Word.TheVariants.{LevelNode, LevelQueue, Head, T
 use Rattle.words.specs.Layout.{level, queue, node}
 use Rattle.table.specs.declared.After.TheVariants.{Go, Done}
 use Rattle.table.specs.Points.{point_of}
-use Rattle.table.specs.Frames.{frame, at, set_k, counted, below_kto, walk_to}
+use Rattle.table.specs.Frames.{frame, at, set_k, counted, below_k_to, walk_to}
 use Rattle.table.specs.Table.{row}
 use Rattle.table.specs.Laws.{if_same, if_other}
 use Rattle.lists.specs.Count.{Same, same, apart, same?}
@@ -38,12 +38,12 @@ pub data First (M : Mem) (q : ℕ) : ℕ → Type 0 where
 abbrev deq : ℕ → ℕ → ℕ → ℕ → ℕ → Frame → Frame
 deq q point n c r f = frame 2 point (queue q) (node n) f.k f.p (node c) f.a (node r) f.m f.steps
 
-below_none : (f : Frame) (x y : ℕ) → f.k.0 ≡ 0 → below_kto x y f ≡ Go (at x f)
-unfolding below_kto
+below_none : (f : Frame) (x y : ℕ) → f.k.0 ≡ 0 → below_k_to x y f ≡ Go (at x f)
+unfolding below_k_to
 below_none f x y h = if_same f.k.0 0 _ _ h
 
-below_more : (f : Frame) (x y : ℕ) → f.k.0 ≢ 0 → below_kto x y f ≡ Go (at y (set_k (level (f.k.0 - 1)) f))
-unfolding below_kto
+below_more : (f : Frame) (x y : ℕ) → f.k.0 ≢ 0 → below_k_to x y f ≡ Go (at y (set_k (level (f.k.0 - 1)) f))
+unfolding below_k_to
 below_more f x y h = if_other f.k.0 0 _ _ h
 
 -- ---- the ways

@@ -19,7 +19,7 @@ use Rattle.table.specs.Points as point
 use Rattle.table.specs.Points.{Point, Unknown, number_of, points, point_in, point_of}
 use Rattle.words.specs.Layout.{level}
 use Rattle.table.specs.Laws.{point_is, if_other}
-use Rattle.table.specs.Frames.{at, counted, if_eq, below_kto, below_mto, walk_to}
+use Rattle.table.specs.Frames.{at, counted, if_eq, below_k_to, below_m_to, walk_to}
 use Rattle.table.specs.Table.{Row, loads, stores, frees, nothing, row}
 use Rattle.state.specs.Mem.{Mem, look}
 use Rattle.state.specs.Step.{State, mem_after, then, frame_after, row_of}
@@ -51,13 +51,13 @@ by_eq {p} {f} {a} {b} {x} {y} h k = by (eqb a b) (same? a b)
 
 -- the branches of the step table over a frame g that has f's op, queue and steps
 below_k_holds : {p : Point} {f : Frame} (g : Frame) → g.op ≡ f.op → g.queue ≡ f.queue → g.steps ≡ f.steps → (x y : ℕ)
-    → Plain p f (below_kto x y g)
-unfolding below_kto
+    → Plain p f (below_k_to x y g)
+unfolding below_k_to
 below_k_holds g o q n x y = by_eq (λ e. goes o q n) (goes o q n)
 
 below_m_holds : {p : Point} {f : Frame} (g : Frame) → g.op ≡ f.op → g.queue ≡ f.queue → g.steps ≡ f.steps → (x y : ℕ)
-    → Plain p f (below_mto x y g)
-unfolding below_mto
+    → Plain p f (below_m_to x y g)
+unfolding below_m_to
 below_m_holds g o q n x y = by_eq (λ e. goes o q n) (goes o q n)
 
 walk_on : {p : Point} {f : Frame} (x v : ℕ) → Plain p f (walk_to x v f)

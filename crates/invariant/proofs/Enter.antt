@@ -11,7 +11,7 @@ use Rattle.lists.specs.Count.{Same, same, apart, same?, counts}
 use Rattle.state.specs.Mem.{put, put_same, put_other}
 use Rattle.state.specs.Step.{mem_after, then}
 use Rattle.table.specs.Points.{E1, E2, E3, E4, E5, E6, E7, E13, E15}
-use Rattle.table.specs.Frames.{below_kto, below_mto}
+use Rattle.table.specs.Frames.{below_k_to, below_m_to}
 use Rattle.table.specs.Table.{row}
 use Rattle.chains.specs.Seg.{stop, link}
 use Rattle.invariant.specs.Ghost.{loose, owner, push, follow, origin, start}
@@ -44,7 +44,7 @@ module _ (T : Turn) where
       (below_ln T d f.node.0) s
 
   pub e2_ok : Case T E2
-  unfolding row below_kto
+  unfolding row below_k_to
   e2_ok at S x _ b _ (is_loose z (e2 h n)) d s = by_eq T
       (λ e. to T E7 (owner f.node.0 x) refl refl refl (is_owner lq= n s.hot (e7 (λ j m. absurd (omega arith))))
       (below_lq T d f.queue.0) alone)
@@ -62,7 +62,7 @@ module _ (T : Turn) where
       }
 
   pub e3_ok : Case T E3
-  unfolding row below_kto
+  unfolding row below_k_to
   e3_ok at S x _ b _ (is_owner z n t (e3 k h)) d s = by_eq T
       (λ e. to T E4 (owner f.node.0 _) refl refl refl
       (is_owner z n t (e4 (record { below = k; registered = e ∙ T.here.queued; free = h }))) d s)
@@ -78,7 +78,7 @@ module _ (T : Turn) where
       to T E5 (owner f.node.0 _) refl refl refl (is_owner z n t (e5 h refl)) d s
 
   pub e5_ok : Case T E5
-  unfolding row below_mto
+  unfolding row below_m_to
   e5_ok at S x _ b _ (is_owner {x = y} z n t (e5 h e)) d s =
       by b d (shown y (omega (arith, T.below)) d h (T.listed f.k.0 h.below h.registered) (hot_start t)
       (λ w. omega (arith, simp counts at (s.all w), T.once w)) (omega (arith, simp counts at (s.all 0), T.none)))
@@ -119,7 +119,7 @@ module _ (T : Turn) where
           (λ j. absurd (j (rw T.here.queued (sym (e ∙ i)))))
 
   pub e6_ok : Case T E6
-  unfolding row below_kto
+  unfolding row below_k_to
   e6_ok at S x _ b _ (is_owner {x = y} z n t (e6 h e)) d s =
       let d' = taken_off (omega (arith, T.below)) T.queued (rw e at d) h
       (T.listed f.k.0 h.below h.registered) in

@@ -11,7 +11,7 @@ use native.Mathlib.Omega.{arith}
 use lib.Dec.{eqb}
 use Rattle.lists.specs.Count.{Same, same, apart, same?, cnt, counts}
 use Rattle.table.specs.Points.{E13, E14, E15, E16, E17, E21}
-use Rattle.table.specs.Frames.{below_mto, go_to, set_a}
+use Rattle.table.specs.Frames.{below_m_to, go_to, set_a}
 use Rattle.table.specs.Table.{row}
 use Rattle.table.specs.declared.After.{After}
 use Rattle.chains.specs.Member.{Last}
@@ -45,8 +45,8 @@ module _ (T : Turn) where
 
     -- from level m downwards: E13 at the next lower level, or E15
     lower : Aim top (origin top st) (start (M.tail q) st) (follow st) f.p.0
-        (origin top st ≢ top → origin top st < f.m.0) → f.m.0 < l → Then (below_mto 15 13 f)
-    unfolding below_mto
+        (origin top st ≢ top → origin top st < f.m.0) → f.m.0 < l → Then (below_m_to 15 13 f)
+    unfolding below_m_to
     lower a m = by_eq T
         (λ i. to T E15 (owner f.node.0 y) refl refl refl
         (is_owner z n t (e15 refl

@@ -12,7 +12,7 @@ use Rattle.words.specs.Layout.{level}
 use Rattle.table.specs.declared.After.{After}
 use Rattle.table.specs.declared.After.TheVariants.{Go, Done}
 use Rattle.table.specs.Points.{Point, E3, E7, E13, E15, E17, number_of}
-use Rattle.table.specs.Frames.{frame, at, set_k, if_eq, below_kto, below_mto, walk_to, to, below_k, below_m, walk}
+use Rattle.table.specs.Frames.{frame, at, set_k, if_eq, below_k_to, below_m_to, walk_to, to, below_k, below_m, walk}
 use Rattle.table.specs.Laws.{if_same, if_other}
 use Rattle.state.specs.Mem.{Mem}
 use Rattle.drains.proofs.Lift.{Bumped, at_top, other}
@@ -48,11 +48,11 @@ module _ (top l q : ℕ) where
 -- ---- the branches of the step table
 
 pub looks_lower : (f : Frame) → f.k.0 ≢ 0 → below_k E7 E3 f ≡ to E3 (set_k (level (f.k.0 - 1)) f)
-unfolding below_kto
+unfolding below_k_to
 looks_lower f n = if_other f.k.0 0 (to E7 f) (to E3 (set_k (level (f.k.0 - 1)) f)) n
 
 goes_below : (f : Frame) → (g : Frame) × (below_k E7 E3 f ≡ Go g)
-unfolding below_kto if_eq
+unfolding below_k_to if_eq
 goes_below f = by (eqb f.k.0 0)
   where
     by : (t : Bool) → (g : Frame) × (cond t (to E7 f) (to E3 (set_k (level (f.k.0 - 1)) f)) ≡ Go g)
@@ -86,12 +86,12 @@ module _ {top l q : ℕ} where
     walks x v = by_eq _ _ (on w) (on w)
 
     pub below_k_holds : (x y : Point) → Both top l q (below_k x y f) (below_k x y (twin f m s))
-    unfolding below_kto
+    unfolding below_k_to
     below_k_holds x y = by_eq _ _ (on w) (on w)
 
   module _ (low : l < top) where
     pub below_m_holds : (f : Frame) (s : ℕ) → f.m.0 < l → (x y : Point) → Both top l q (below_m x y f) (below_m x y (twin f f.m.0 s))
-    unfolding below_mto
+    unfolding below_m_to
     below_m_holds f s c x y = by_eq _ _ (on (below_top low c)) (on (other (λ z. omega arith) refl))
 
     -- E2: the copy's dequeue looks at the highest of the levels between first

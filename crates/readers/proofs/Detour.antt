@@ -9,7 +9,7 @@ use Rattle.words.specs.Layout.{level}
 use Rattle.table.specs.declared.After.{After}
 use Rattle.table.specs.declared.After.TheVariants.{Go}
 use Rattle.table.specs.Points.{E3, E4, E7, number_of, point_of}
-use Rattle.table.specs.Frames.{at, set_k, below_kto, to, below_k, counted}
+use Rattle.table.specs.Frames.{at, set_k, below_k_to, to, below_k, counted}
 use Rattle.table.specs.Laws.{if_other}
 use Rattle.table.specs.Table.{row}
 use Rattle.lists.specs.Count.{Same, same, apart, same?}
@@ -37,7 +37,7 @@ module _ {top l q : ℕ} where
   -- having looked at level k it looks at the next lower one, or stands where the table's dequeue stands
   looked : (e f : Frame) (m s k : ℕ) → l ≤ k → k < top → Bumped top e.m.0 m → below_k E7 E3 (set_k (level l) e) ≡ Go f
       → (h : Frame) × (below_k E7 E3 (twin (at (number_of E3) (set_k (level k) e)) m s) ≡ Go h) × Standing top l q f h
-  unfolding below_kto
+  unfolding below_k_to
   looked e f m s k a b w i = by (eqb k l) (same? k l)
     where
       g : Frame

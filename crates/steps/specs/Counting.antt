@@ -14,7 +14,7 @@ use Rattle.words.specs.declared.Word.TheVariants as word
 use Rattle.words.specs.Layout.{level, has, rd, wr}
 use Rattle.table.specs.Points as point
 use Rattle.table.specs.Points.{Point, point_of}
-use Rattle.table.specs.Frames.{counted, if_eq, below_kto, below_mto, walk_to}
+use Rattle.table.specs.Frames.{counted, if_eq, below_k_to, below_m_to, walk_to}
 use Rattle.table.specs.Table.{loads, stores, frees, nothing, row}
 use Rattle.table.specs.Turn.{turned}
 use Rattle.table.specs.Laws.{if_of}
@@ -101,7 +101,7 @@ module _ (s : Sizes) (t : List ℕ) (v : ℕ) where
   nothing_steps = refl
 
   turned_steps : (p : Point) (f : Frame) (l top : Level) → turned s t (row p (set_steps v f) l top) ≡ with (turned s t (row p f l top))
-  unfolding row below_kto below_mto walk_to
+  unfolding row below_k_to below_m_to walk_to
   turned_steps =
       elim [
         | point.E1 ↦ λ f l top. store_steps _ _ _ _ refl

@@ -17,7 +17,7 @@ use Rattle.words.specs.Layout.{level, words, has, rd, wr, frame_of, put_frame}
 use Rattle.words.specs.Laws.{has_use, rd_other, frame_wr, frame_same, frame_other, wr_length}
 use Rattle.table.specs.Points as point
 use Rattle.table.specs.Points.{Point, point_of}
-use Rattle.table.specs.Frames.{counted, below_kto, below_mto, walk_to}
+use Rattle.table.specs.Frames.{counted, below_k_to, below_m_to, walk_to}
 use Rattle.table.specs.Table.{Row, loads, stores, frees, nothing, row}
 use Rattle.table.specs.Turn.{turned}
 use Rattle.table.specs.Laws.{if_of, either}
@@ -46,7 +46,7 @@ kind_of o x (frees n after) = kind_after o after
 kind_of o x nothing = o
 
 pub kind_kept : (p : Point) (f : Frame) (l top : Level) (x : ℕ) → kind_of (kind f) x (row p f l top) ≡ kind f
-unfolding kind_of kind_after row below_kto below_mto walk_to
+unfolding kind_of kind_after row below_k_to below_m_to walk_to
 kind_kept =
     elim [
       | point.E1 ↦ λ f l top x. refl

@@ -15,7 +15,7 @@ use Rattle.words.specs.Layout.{level, words, within, has, rd, wr}
 use Rattle.words.specs.Laws.{and_true}
 use Rattle.table.specs.Points as point
 use Rattle.table.specs.Points.{Point, D1, number_of, point_in, point_of, points}
-use Rattle.table.specs.Frames.{below_kto, below_mto, walk_to}
+use Rattle.table.specs.Frames.{below_k_to, below_m_to, walk_to}
 use Rattle.table.specs.Table.{Row, loads, stores, frees, nothing, row}
 use Rattle.table.specs.Turn.{turned}
 use Rattle.table.specs.Laws.{if_of, either}
@@ -41,7 +41,7 @@ late_of x nothing = false
 -- of an enqueue at an E point
 row_early : (p : Point) (f : Frame) (l top : Level) (x : ℕ) → f.op ≡ 1 → leb (number_of D1) f.point ≡ false
     → leb (number_of D1) (number_of p) ≡ false → late_of x (row p f l top) ≡ false
-unfolding late_of late row below_kto below_mto walk_to
+unfolding late_of late row below_k_to below_m_to walk_to
 row_early =
     elim [
       | point.E1 ↦ λ f l top x one low at. refl

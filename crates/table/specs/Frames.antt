@@ -67,11 +67,11 @@ abbrev pub go_to : ℕ → Frame → After
 go_to x f = Go (at x f)
 
 -- below k: if k is 0 go to x, else take 1 from k and go to y
-unfoldable pub below_kto : ℕ → ℕ → Frame → After
-below_kto x y f = if_eq f.k.0 0 (go_to x f) (go_to y (set_k (level (f.k.0 - 1)) f))
+unfoldable pub below_k_to : ℕ → ℕ → Frame → After
+below_k_to x y f = if_eq f.k.0 0 (go_to x f) (go_to y (set_k (level (f.k.0 - 1)) f))
 
-unfoldable pub below_mto : ℕ → ℕ → Frame → After
-below_mto x y f = if_eq f.m.0 0 (go_to x f) (go_to y (set_m (level (f.m.0 - 1)) f))
+unfoldable pub below_m_to : ℕ → ℕ → Frame → After
+below_m_to x y f = if_eq f.m.0 0 (go_to x f) (go_to y (set_m (level (f.m.0 - 1)) f))
 
 -- the walk of E8: if v is 0 go to x, else c becomes v and stay
 unfoldable pub walk_to : ℕ → ℕ → Frame → After
@@ -82,10 +82,10 @@ abbrev pub to : Point → Frame → After
 to x f = go_to (number_of x) f
 
 abbrev pub below_k : Point → Point → Frame → After
-below_k x y f = below_kto (number_of x) (number_of y) f
+below_k x y f = below_k_to (number_of x) (number_of y) f
 
 abbrev pub below_m : Point → Point → Frame → After
-below_m x y f = below_mto (number_of x) (number_of y) f
+below_m x y f = below_m_to (number_of x) (number_of y) f
 
 abbrev pub walk : Point → ℕ → Frame → After
 walk x v f = walk_to (number_of x) v f

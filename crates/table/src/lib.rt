@@ -3,7 +3,7 @@ ghost use Rattle.std.specs.Prelude.{◌≡◌, map};
 ghost use Rattle.table.specs.Points.{point_of, number_of, points};
 ghost use Rattle.words.specs.Inner.{Fits};
 ghost use Rattle.table.specs.declared.After.TheVariants.{Go, Done};
-ghost use Rattle.table.specs.Frames.{go_to, below_kto, below_mto};
+ghost use Rattle.table.specs.Frames.{go_to, below_k_to, below_m_to};
 ghost use Rattle.table.specs.Table.{row};
 ghost use Rattle.table.specs.Turn.{loaded, stored, follows, turned};
 
@@ -209,7 +209,7 @@ impl Access {
 
     // Below k: if k is 0 go to x, else take 1 from k and go to y.
     fn below_k(self, mut f: Frame, x: u16, y: u16) -> Turned
-        ensures { result ≡ follows self (below_kto x y f) }
+        ensures { result ≡ follows self (below_k_to x y f) }
     {
         let k = f.k.0;
         if k == 0 {
@@ -223,7 +223,7 @@ impl Access {
 
     // Below m: if m is 0 go to x, else take 1 from m and go to y.
     fn below_m(self, mut f: Frame, x: u16, y: u16) -> Turned
-        ensures { result ≡ follows self (below_mto x y f) }
+        ensures { result ≡ follows self (below_m_to x y f) }
     {
         let m = f.m.0;
         if m == 0 {
