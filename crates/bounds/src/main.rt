@@ -1,9 +1,9 @@
 // The second log program: the log of the schedule on standard input, with the bound on its steps in each E line.
-use log::Kind;
+use logs::Kind;
 
 fn main() {
     let mut text = [0u8; 65537];
-    let mut table = [0u16; log::TABLE];
-    let mut room = [0u8; log::BOUNDS_ROOM];
+    let mut table = [0u16; logs::TABLE];
+    let mut room = [0u8; logs::BOUNDS_ROOM];
     programs::print_log(Kind::Bounds, &mut text, &mut table, &mut room);
 }

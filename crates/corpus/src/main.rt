@@ -2,7 +2,7 @@
 ghost use Rattle.std.specs.Prelude.{◌≤◌, length};
 
 use libc::{STDIN_FILENO, STDOUT_FILENO};
-use log::{Kind, Logged};
+use logs::{Kind, Logged};
 
 fn digit(b: u8) -> usize
     ensures { result ≤ 9 }
@@ -70,10 +70,10 @@ fn cut_bounds(log: &mut [u8], n: usize) -> usize
 
 // The log. The bounds log must be the same but for the bounds: where it is not, a line in the log's place says so.
 fn write_logs(text: &[u8], table: &mut [u16], room: &mut [u8], second: &mut [u8]) -> bool {
-    let Logged::Bytes(m) = log::write_log(Kind::Plain, text, table, room) else {
+    let Logged::Bytes(m) = logs::write_log(Kind::Plain, text, table, room) else {
         return false;
     };
-    let Logged::Bytes(n) = log::write_log(Kind::Bounds, text, table, second) else {
+    let Logged::Bytes(n) = logs::write_log(Kind::Bounds, text, table, second) else {
         return false;
     };
     let left = cut_bounds(second, n);
@@ -112,8 +112,8 @@ fn run_cases(text: &mut [u8], table: &mut [u16], room: &mut [u8], second: &mut [
 
 fn main() {
     let mut text = [0u8; 65537];
-    let mut table = [0u16; log::TABLE];
-    let mut room = [0u8; log::ROOM];
-    let mut second = [0u8; log::BOUNDS_ROOM];
+    let mut table = [0u16; logs::TABLE];
+    let mut room = [0u8; logs::ROOM];
+    let mut second = [0u8; logs::BOUNDS_ROOM];
     run_cases(&mut text, &mut table, &mut room, &mut second);
 }

@@ -1,5 +1,5 @@
 // What the log programs do: a schedule on standard input, its log on standard output.
-use log::{Kind, Logged};
+use logs::{Kind, Logged};
 use streams::Input;
 
 // In lent text, table and room: 65,537 bytes of text, so that one too many is seen, and what write_log asks for.
@@ -7,7 +7,7 @@ pub fn print_log(kind: Kind, text: &mut [u8], table: &mut [u16], room: &mut [u8]
     let Input::Bytes(n) = streams::read_input(text) else {
         return;
     };
-    match log::write_log(kind, &text[..n], table, room) {
+    match logs::write_log(kind, &text[..n], table, room) {
         Logged::Bytes(m) => {
             streams::write_output(&room[..m]);
         }

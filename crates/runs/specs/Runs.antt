@@ -12,9 +12,9 @@ use Rattle.text.specs.declared.Event.{Event}
 use Rattle.text.specs.declared.Event.TheVariants.{Enqueue, Dequeue, Steps}
 use Rattle.fresh.specs.Fresh.{fresh_of}
 use Rattle.loglines.specs.Lines.{end_line, queue_line}
-use Rattle.log.specs.declared.Kind.{Kind}
-use Rattle.log.specs.declared.Kind.TheVariants.{Plain, Bounds}
-use Rattle.log.specs.Log.{opening_sizes, sized_log, log_text}
+use Rattle.logs.specs.declared.Kind.{Kind}
+use Rattle.logs.specs.declared.Kind.TheVariants.{Plain, Bounds}
+use Rattle.logs.specs.Log.{opening_sizes, sized_log, log_text}
 
 abbrev pub opening : List Event → Opening
 opening es = record { levels = 2; queues = 1; nodes = 4; events = length es }

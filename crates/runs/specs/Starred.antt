@@ -15,7 +15,7 @@ use Rattle.fresh.specs.Fresh.{ended, fresh_table, fresh_of}
 use Rattle.asks.specs.Listing.{before, chain, nodes_from, listed, listing_sized, listing_measured, listing_of}
 use Rattle.loglines.specs.Lines.{text_line, refusal_line, operation_text, end_line, bound_line, nodes_text, queue_line, unquiet_line}
 use Rattle.play.specs.Play.{go_on, steps_of, event_of, follow, events_of}
-use Rattle.log.specs.Log.{listed_line, queue_of, queues_of, sized_log, read_log, log_text}
+use Rattle.logs.specs.Log.{listed_line, queue_of, queues_of, sized_log, read_log, log_text}
 use Rattle.runs.specs.Runs.{Holds, starred, All}
 
 pub starred_hold : All Holds starred

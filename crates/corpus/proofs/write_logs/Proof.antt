@@ -1,6 +1,6 @@
 use mathlib.Core.Path.{sym}
 use lib.Seq.{length-take-le}
-use Rattle.log.specs.Laws.{log_within}
+use Rattle.logs.specs.Laws.{log_within}
 use borrow.Author.Rules.{rules}
 use Rattle.corpus.proofs.write_logs.Statement.{statement}
 use Rattle.corpus.proofs.write_logs.Tie as tie

@@ -1,6 +1,6 @@
 use mathlib.Core.Path.{sym}
 use lib.Seq.{length-take-le}
-use Rattle.log.specs.Laws.{log_within}
+use Rattle.logs.specs.Laws.{log_within}
 use borrow.Author.Rules.{rules}
 use Rattle.programs.proofs.print_log.Statement.{statement}
 use Rattle.programs.proofs.print_log.Tie as tie
