@@ -1,4 +1,6 @@
 // What the table is asked: whether a queue is quiet, and which nodes are in it.
+#![tactic(auto)]
+
 ghost use Rattle.std.specs.Prelude.{◌≡◌, true, ◌+◌, ◌≤◌, length, eqb};
 ghost use Rattle.words.specs.declared.Word.TheVariants.{Head};
 ghost use Rattle.words.specs.Layout.{has};
@@ -29,7 +31,7 @@ pub fn quiet(t: &[u16], q: Queue) -> answers::Quiet
 }
 
 // A chain that ends, with its number of nodes but the sentinel, or one of refusal 10.
-#[derive(Drop)]
+#[derive(Clone, Copy)]
 pub enum Chain {
     Ends(u16),
     Broken,

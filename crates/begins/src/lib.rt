@@ -1,4 +1,6 @@
 // Beginning an enqueue or a dequeue.
+#![tactic(auto)]
+
 ghost use Rattle.std.specs.Prelude.{◌≡◌};
 ghost use Rattle.words.specs.Inner.{Fits};
 ghost use Rattle.answers.specs.Said.{says, done_says};

@@ -1,4 +1,6 @@
 // The conditions of the refusals that several calls share.
+#![tactic(auto)]
+
 ghost use Rattle.std.specs.Prelude.{◌≡◌, true, ◌-◌, ◌≤◌, ◌<◌};
 ghost use Rattle.words.specs.declared.Word.TheVariants.{Use};
 ghost use Rattle.words.specs.Layout.{has};
@@ -18,7 +20,7 @@ ghost use Rattle.conditions.specs.Conditions.{
 use words::{Frame, Level, Node, Queue, Sizes, Word};
 
 // What is sought among the frames: one that runs, one that runs on a queue, a dequeue of a queue.
-#[derive(Drop)]
+#[derive(Clone, Copy)]
 pub enum Sought {
     Running,
     RunningOn(Queue),

@@ -1,4 +1,6 @@
 // A fresh table.
+#![tactic(auto)]
+
 ghost use Rattle.std.specs.Prelude.{◌≡◌, ◌++◌, ◌≤◌, length, replicate, drop};
 ghost use Rattle.words.specs.Inner.{Small, Fits};
 ghost use Rattle.answers.specs.Said.{done_says};

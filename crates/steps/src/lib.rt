@@ -1,4 +1,6 @@
 // One step of the highest level that runs, and a run of steps with a budget.
+#![tactic(auto)]
+
 ghost use Rattle.std.specs.Prelude.{◌≡◌, ◌≤◌};
 ghost use Rattle.words.specs.Inner.{Fits};
 ghost use Rattle.words.specs.Layout.{measured};
@@ -14,7 +16,7 @@ use answers::{End, Ran, Stepped};
 use table::{After, Point, Turned};
 use words::{Frame, Level, Measured, Node, Sizes};
 
-#[derive(Drop)]
+#[derive(Clone, Copy)]
 pub enum Served {
     At(Level),
     Nobody,

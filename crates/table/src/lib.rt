@@ -1,4 +1,6 @@
 // The points and the step table.
+#![tactic(auto)]
+
 ghost use Rattle.std.specs.Prelude.{◌≡◌, map};
 ghost use Rattle.table.specs.Points.{point_of, number_of, points};
 ghost use Rattle.words.specs.Inner.{Fits};
@@ -10,7 +12,7 @@ ghost use Rattle.table.specs.Turn.{loaded, stored, follows, turned};
 use words::{Frame, Level, Node, Sizes, Word};
 
 // A point of the step table, by the number that a frame holds.
-#[derive(Drop)]
+#[derive(Clone, Copy)]
 pub struct Point(pub u16);
 
 impl Point {
@@ -132,7 +134,7 @@ pub fn numbers() -> [u16; 36]
 }
 
 // What follows an access: the frame as it goes on, or the operation's end with its node, 0 for empty.
-#[derive(Drop)]
+#[derive(Clone, Copy)]
 pub enum After {
     Go(Frame),
     Done(Node),
@@ -166,14 +168,14 @@ fn apart(f: Frame) -> Frame
 }
 
 // An access as it was tried: the value that it loaded or stored, and whether its word is there, one of the table's.
-#[derive(Drop)]
+#[derive(Clone, Copy)]
 struct Access {
     value: u16,
     there: bool,
 }
 
 // What follows an access, or Stray where its word is not one of the table's.
-#[derive(Drop)]
+#[derive(Clone, Copy)]
 pub enum Turned {
     Next(After),
     Stray,

@@ -1,4 +1,6 @@
 // How many nodes of a queue a reader would get now: dequeues are tried on a copy of the table.
+#![tactic(auto)]
+
 ghost use Rattle.std.specs.Prelude.{◌≡◌, ◌≤◌, ◌<◌, length};
 ghost use Rattle.words.specs.declared.Measured.TheVariants.{Sized};
 ghost use Rattle.words.specs.Layout.{words, measured, frame_of};

@@ -1,4 +1,6 @@
 // Operations, moves and what a schedule is: taking a step or the next begin, and the ways on which nothing is to be chosen.
+#![tactic(auto)]
+
 ghost use Rattle.std.specs.Prelude.{◌≡◌, true, ◌+◌, ◌-◌, ◌*◌, ◌≤◌, ◌<◌, length};
 ghost use Rattle.ways.specs.Schedules.{op_in, begun};
 ghost use Rattle.ways.specs.Forced.{stretched, gone_on, end_in, last_in, TableOf, Open};
@@ -7,7 +9,7 @@ use answers::{Ran, Stepped};
 use words::{Level, Measured, Node, Queue, Sizes};
 
 // An operation: op 1 is an enqueue, op 2 with node 0 a dequeue; any other is never accepted.
-#[derive(Drop)]
+#[derive(Clone, Copy)]
 pub struct Op {
     pub op: u16,
     pub level: Level,
@@ -16,7 +18,7 @@ pub struct Op {
 }
 
 // The steps until nothing runs, or Cut where that does not come.
-#[derive(Drop)]
+#[derive(Clone, Copy)]
 pub enum Tail {
     Ends(u16),
     Cut,
