@@ -58,7 +58,7 @@ module _ (s : Sizes) (t u : List ℕ) (ops : (k : Level) → (frame_of s u k).op
   enqueue_same l q n uses = rw (busy_same l) (by (no_node s n) refl)
     where
       conditions : Bool → Bool → List (ℕ × Bool)
-      conditions no_Node in_use_holds = (3, no_level s l) ∷ (4, no_queue s q) ∷ (5, no_Node) ∷ (6, busy s t l) ∷ (7, in_use_holds) ∷ []
+      conditions no_node in_use = (3, no_level s l) ∷ (4, no_queue s q) ∷ (5, no_node) ∷ (6, busy s t l) ∷ (7, in_use) ∷ []
 
       by : (b : Bool) → no_node s n ≡ b → first_of (conditions b (in_use s u n)) ≡ first_of (conditions b (in_use s t n))
       by true e = refl

@@ -1,5 +1,5 @@
 -- Facts about the conditions that the proofs of the calls cite.
-use Rattle.std.specs.Prelude.{ℕ, zero, suc, ◌+◌, ◌-◌, ◌≤◌, ◌<◌, ◌≡◌, refl, List, true, false, not, ◌||◌}
+use Rattle.std.specs.Prelude.{ℕ, zero, suc, ◌+◌, ◌-◌, ◌≤◌, ◌<◌, ◌≡◌, refl, List, true, false, ◌||◌}
 use Rattle.std.proofs.Common.{arith, leb-false}
 use Rattle.std.proofs.lemmas.Bool.{not-false}
 use Rattle.words.specs.declared.Level.{Level}

@@ -80,7 +80,7 @@ pub fn is_busy(t: &[u16], s: Sizes, l: Level) -> bool
     some_level(t, s, Sought::Running, l.index(), s.levels)
 }
 
-pub fn in_use_holds(t: &[u16], s: Sizes, n: Node) -> bool
+pub fn in_use(t: &[u16], s: Sizes, n: Node) -> bool
     requires fits { Fits s t.now }
     requires n_value { has s (Use n) ≡ true }
     ensures { result ≡ in_use s t.now n }
