@@ -27,7 +27,7 @@ use Rattle.answers.specs.Said.{refused, says, Step}
 use Rattle.steps.specs.declared.Served.{Served}
 use Rattle.steps.specs.declared.Served.TheVariants.{At, Nobody}
 use Rattle.steps.specs.Step.{serving, strays, sound, end_of, step_frame, step_served, step_sized}
-use Rattle.steps.specs.Singly.{stepped_kept}
+use Rattle.steps.proofs.Singly.{stepped_kept}
 use Rattle.lists.specs.Count.{Same, same, apart, same?, cnt, counts}
 use Rattle.lists.specs.Beginning.{Beginning, begins_same}
 use Rattle.state.specs.Mem.{Mem, look, upd}

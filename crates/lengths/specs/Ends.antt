@@ -25,7 +25,7 @@ use Rattle.table.specs.declared.After.TheVariants.{Go, Done}
 use Rattle.steps.specs.declared.Served.{Served}
 use Rattle.steps.specs.declared.Served.TheVariants.{At, Nobody}
 use Rattle.steps.specs.Step.{Out, serving, sound, settled, performed, step_frame, step_served, step_sized, step_measured, step_of}
-use Rattle.steps.specs.Laws.{serving_below, serving_runs}
+use Rattle.steps.proofs.Laws.{serving_below, serving_runs}
 use Rattle.steps.specs.Keeping.{kind, kind_after, kind_of, kind_kept}
 use Rattle.begins.specs.Begin.{
   begun,
@@ -42,7 +42,7 @@ use Rattle.begins.specs.Begin.{
 use Rattle.begins.specs.Laws.{Enqueues, enqueues, dequeues}
 use Rattle.fresh.specs.Fresh.{fresh_table}
 use Rattle.fresh.specs.Laws.{fresh_measured, fresh_frame}
-use Rattle.steps.specs.Singly.{step_kept}
+use Rattle.steps.proofs.Singly.{step_kept}
 use Rattle.lengths.specs.Running.{active, running_below, running_measured, running, ends_in}
 
 -- ---- one frame

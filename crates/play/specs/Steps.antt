@@ -13,7 +13,7 @@ use Rattle.answers.specs.declared.End.{End}
 use Rattle.answers.specs.Said.{Said, refused, says, going_on, ended, Run, after, an_end, spent, nothing_runs, refusal_10}
 use Rattle.steps.specs.Step.{Out, step_sized, step_measured, step_of}
 use Rattle.steps.specs.Run.{ran_on, run_from, run_measured, run_of}
-use Rattle.steps.specs.Singly.{Kept, step_kept, step_is}
+use Rattle.steps.proofs.Singly.{Kept, step_kept, step_is}
 use Rattle.play.specs.Play.{Played, before, go_on, steps_of}
 
 -- what a run leaves to play, of so many steps in all

@@ -2,12 +2,6 @@ pub mod Step
 pub mod Run
 pub mod Whole
 pub mod Held
-pub mod Laws
 pub mod Keeping
 pub mod Counting
 pub mod Soundness
-pub mod Holding
-pub mod Singly
-pub mod After
-pub mod Levels
-pub mod Aside

@@ -22,7 +22,7 @@ use Rattle.table.specs.Points.{D1}
 use Rattle.steps.specs.declared.Served.TheVariants.{At}
 use Rattle.steps.specs.Step.{Out, serving, step_sized}
 use Rattle.steps.specs.Run.{ran_on, run_from}
-use Rattle.steps.specs.Aside.{Aside, RanAside, ran_aside}
+use Rattle.steps.proofs.Aside.{Aside, RanAside, ran_aside}
 use Rattle.conditions.specs.declared.Sought.TheVariants.{DequeueOn}
 use Rattle.conditions.specs.Conditions.{sought, some, no_level, no_queue, busy, dequeued}
 use Rattle.conditions.specs.Laws.{some_alike}

@@ -14,8 +14,8 @@ use Rattle.begins.specs.Begin.{unless, enqueue_why, enqueue_sized, enqueue_measu
 use Rattle.begins.specs.Begin.{dequeue_why, dequeue_sized, dequeue_measured, dequeue_of}
 use Rattle.begins.specs.Keeping.{enqueue_kept, dequeue_kept, enqueue_same, dequeue_same}
 use Rattle.steps.specs.Step.{step_sized}
-use Rattle.steps.specs.Singly.{step_is}
-use Rattle.steps.specs.After.{Steady}
+use Rattle.steps.proofs.Singly.{step_is}
+use Rattle.steps.proofs.After.{Steady}
 use Rattle.ways.specs.declared.Op.{Op}
 use Rattle.ways.specs.Schedules.{accepts, tried, Tried, begun, stepped}
 

@@ -8,7 +8,7 @@ use Rattle.words.specs.declared.Sizes.{Sizes}
 use Rattle.answers.specs.Said.{Said, refused, says, Run, after, an_end, spent, nothing_runs, refusal_10}
 use Rattle.steps.specs.Step.{Out, step_sized, step_of}
 use Rattle.steps.specs.Whole.{whole_on, whole_from}
-use Rattle.steps.specs.Singly.{Kept, step_kept, step_is}
+use Rattle.steps.proofs.Singly.{Kept, step_kept, step_is}
 use Rattle.ways.specs.declared.Tail.{Tail}
 use Rattle.ways.specs.declared.Tail.TheVariants.{Ends, Cut}
 use Rattle.ways.specs.Schedules.{accepts, is_nine, stepped, idle}

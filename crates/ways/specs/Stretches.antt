@@ -14,8 +14,8 @@ use Rattle.answers.specs.declared.End.{End}
 use Rattle.answers.specs.Said.{Said, refused, says, Step, going_on, ended, Run, after, an_end, spent, nothing_runs, refusal_10}
 use Rattle.steps.specs.Step.{Out, step_sized}
 use Rattle.steps.specs.Run.{ran_on, run_from}
-use Rattle.steps.specs.Singly.{Kept, step_kept, stepped_kept}
-use Rattle.steps.specs.After.{step_steady}
+use Rattle.steps.proofs.Singly.{Kept, step_kept, stepped_kept}
+use Rattle.steps.proofs.After.{step_steady}
 use Rattle.ways.specs.declared.Op.{Op}
 use Rattle.ways.specs.declared.Tail.{Tail}
 use Rattle.ways.specs.declared.Tail.TheVariants.{Cut}

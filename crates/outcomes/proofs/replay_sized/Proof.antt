@@ -3,7 +3,7 @@ use mathlib.Core.Path.{◌≡◌, refl, ◌∙◌}
 use lib.ListN.{length}
 use Rattle.words.specs.declared.Measured.TheVariants.{Sized}
 use Rattle.words.specs.Layout.{measured}
-use Rattle.steps.specs.Singly.{sized_ended_within, ran_kept, run_is}
+use Rattle.steps.proofs.Singly.{sized_ended_within, ran_kept, run_is}
 use Rattle.play.specs.Steps.{ran_played}
 use Rattle.outcomes.specs.Outcomes.{into, replay_steps}
 use Rattle.outcomes.specs.OutcomesLaws.{steps_ended, steps_stopped, steps_none}

@@ -5,7 +5,7 @@ use Rattle.loglines.specs.Lines.{line_of}
 use Rattle.play.specs.Play.{steps_of}
 use Rattle.play.specs.Parts.{into}
 use Rattle.play.specs.Steps.{ran_played}
-use Rattle.steps.specs.Singly.{ended_within}
+use Rattle.steps.proofs.Singly.{ended_within}
 use Rattle.play.specs.Laws.{run_ended, run_stopped, steps_none}
 use borrow.Author.Rules.{rules}
 use Rattle.play.proofs.play_steps.Statement.{statement}

@@ -1,7 +1,7 @@
 use native.Mathlib.Omega.{arith}
 use Rattle.words.specs.Laws.{told}
 use Rattle.steps.specs.Step.{serving}
-use Rattle.steps.specs.Laws.{serving_hit, serving_miss}
+use Rattle.steps.proofs.Laws.{serving_hit, serving_miss}
 use mathlib.Core.Path.{◌≡◌, refl, sym, ◌∙◌, ap}
 use borrow.Author.Rules.{rules}
 use Rattle.steps.proofs.find_served.Goals as goal

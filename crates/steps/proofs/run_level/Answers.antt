@@ -1,6 +1,6 @@
 use Rattle.words.specs.Laws.{told}
-use Rattle.steps.specs.Laws.{serving_below}
-use Rattle.steps.specs.Holding.{holding_start, holding_none, holding_on, holding_ended, holding_stray, holding_spent}
+use Rattle.steps.proofs.Laws.{serving_below}
+use Rattle.steps.proofs.Holding.{holding_start, holding_none, holding_on, holding_ended, holding_stray, holding_spent}
 use borrow.Author.Rules.{rules}
 use Rattle.steps.proofs.run_level.Goals as goal
 

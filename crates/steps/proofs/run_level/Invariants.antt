@@ -1,7 +1,7 @@
 use Prim.Native.Nat.{◌+◌}
 use mathlib.Core.Path.{◌≡◌}
 use lib.ListN.{length}
-use Rattle.steps.specs.Holding.{Holding}
+use Rattle.steps.proofs.Holding.{Holding}
 use Rattle.steps.proofs.run_level.Given as goal
 
 abbrev pub invariant-loop-left : goal.invariant-loop-left

@@ -1,5 +1,5 @@
-use Rattle.steps.specs.Levels.{ran_by, levels_start, levels_on, levels_none, levels_idle, levels_more, levels_end}
-use Rattle.steps.specs.Singly.{sized_ended_within, sized_within, ran_kept, run_down}
+use Rattle.steps.proofs.Levels.{ran_by, levels_start, levels_on, levels_none, levels_idle, levels_more, levels_end}
+use Rattle.steps.proofs.Singly.{sized_ended_within, sized_within, ran_kept, run_down}
 use Rattle.steps.specs.Step.{serving}
 use Rattle.answers.specs.Said as said
 use Rattle.words.specs.Laws.{told, measured_fits}

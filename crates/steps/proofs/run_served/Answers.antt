@@ -1,4 +1,4 @@
-use Rattle.steps.specs.Levels.{levels_none, levels_idle}
+use Rattle.steps.proofs.Levels.{levels_none, levels_idle}
 use Rattle.words.specs.Laws.{told, measured_fits}
 use native.Mathlib.Omega.{arith}
 use mathlib.Core.Bool.{false}

@@ -1,4 +1,4 @@
-use Rattle.steps.specs.Singly.{step_by_run}
+use Rattle.steps.proofs.Singly.{step_by_run}
 use Rattle.steps.specs.Step.{step_sized, step_served}
 use Rattle.words.specs.Laws.{told, measured_fits}
 use native.Mathlib.Omega.{arith}

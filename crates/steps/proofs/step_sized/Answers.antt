@@ -1,4 +1,4 @@
-use Rattle.steps.specs.Singly.{step_by_run}
+use Rattle.steps.proofs.Singly.{step_by_run}
 use Rattle.steps.proofs.step_sized.Goals as goal
 
 -- src/lib.rt:212:1

@@ -25,7 +25,7 @@ use Rattle.steps.specs.declared.Served.TheVariants.{At, Nobody}
 use Rattle.steps.specs.Step.{Out, sound, settled, performed, step_frame, step_served, step_sized, step_measured, step_of}
 use Rattle.steps.specs.Run.{ran_on, run_from, run_measured, run_of}
 use Rattle.steps.specs.Held.{step_of_run}
-use Rattle.steps.specs.After.{Down, step_down}
+use Rattle.steps.proofs.After.{Down, step_down}
 
 -- the refusals of a step of a table that was measured
 abbrev pub Known : Said Step → Type 0

@@ -13,7 +13,7 @@ use Rattle.steps.specs.declared.Served.TheVariants.{Nobody}
 use Rattle.steps.specs.Step.{Out, serving, step_served, step_sized}
 use Rattle.steps.specs.Run.{ran_on, run_from}
 use Rattle.steps.specs.Whole.{whole_on, whole_from, ran_from}
-use Rattle.steps.specs.Singly.{sized_ended_within}
+use Rattle.steps.proofs.Singly.{sized_ended_within}
 
 -- n steps were taken, and then a run of what is left gave this
 unfoldable pub ran_by : Bool → Sizes → ℕ → ℕ → Said Run × List ℕ → Said Run × List ℕ

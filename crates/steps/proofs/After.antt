@@ -28,7 +28,7 @@ use Rattle.steps.specs.declared.Served.{Served}
 use Rattle.steps.specs.declared.Served.TheVariants.{At, Nobody}
 use Rattle.steps.specs.Step.{Out, serving, sound, end_of, step_served, step_sized}
 use Rattle.steps.specs.Held.{Held, Going, Ended, Damaged, followed, follow, held, back}
-use Rattle.steps.specs.Laws.{step_held, serving_below}
+use Rattle.steps.proofs.Laws.{step_held, serving_below}
 use Rattle.steps.specs.Keeping.{kind, Goes, held_goes, Left, held_leaves}
 
 pub record Steady (s : Sizes) (t u : List ℕ) : Type 0 where

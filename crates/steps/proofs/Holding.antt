@@ -18,7 +18,7 @@ use Rattle.steps.specs.declared.Served.TheVariants.{At}
 use Rattle.steps.specs.Step.{serving, sound, end_of}
 use Rattle.steps.specs.Run.{ran_on, run_from}
 use Rattle.steps.specs.Held.{Held, Damaged, followed, turn_of, held, back, set_steps, later}
-use Rattle.steps.specs.Laws.{run_held, serving_below}
+use Rattle.steps.proofs.Laws.{run_held, serving_below}
 use Rattle.steps.specs.Keeping.{serving_kept}
 use Rattle.steps.specs.Counting.{turned_with, turn_held, sound_counted}
 use Rattle.steps.specs.Soundness.{sound_kept}

@@ -17,9 +17,9 @@ use Rattle.steps.specs.declared.Served.TheVariants.{At}
 use Rattle.steps.specs.Step.{Out, serving, step_sized}
 use Rattle.steps.specs.Run.{ran_on, run_from}
 use Rattle.steps.specs.Held.{Held, Going, Ended, Damaged, held, back}
-use Rattle.steps.specs.Laws.{serving_below}
+use Rattle.steps.proofs.Laws.{serving_below}
 use Rattle.steps.specs.Keeping.{Left, held_leaves, serving_same}
-use Rattle.steps.specs.After.{served_step, step_steady}
+use Rattle.steps.proofs.After.{served_step, step_steady}
 
 module _ (s : Sizes) (l : Level) where
   -- every other level's frame is as it was

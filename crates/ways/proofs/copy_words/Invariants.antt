@@ -1,0 +1,10 @@
+use Prim.Native.Nat.{◌≤◌, ◌-◌}
+use mathlib.Core.Path.{◌≡◌}
+use lib.ListN.{length, take}
+use Rattle.ways.proofs.copy_words.Given as goal
+
+abbrev pub invariant-loop-i : goal.invariant-loop-i
+invariant-loop-i l = (l.i ≤ length l.from) × (length l.to ≡ length l.from) × (take l.i l.to ≡ take l.i l.from)
+
+abbrev pub decreases-loop-i : goal.decreases-loop-i
+decreases-loop-i l = length l.from - l.i

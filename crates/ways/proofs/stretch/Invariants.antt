@@ -1,0 +1,18 @@
+use Rattle.ways.specs.Forced.{stretched}
+use Rattle.words.specs.Layout.{measured}
+use Rattle.words.specs.declared.Measured.TheVariants.{Sized}
+use lib.ListN.{length}
+use mathlib.Core.Path.{◌≡◌}
+use Prim.Native.Nat.{◌≤◌}
+use Rattle.ways.proofs.stretch.Reads as reads
+use Rattle.ways.proofs.stretch.Lts as lts
+use Rattle.steps.proofs.run_sized.Reads as run-sized-reads
+use Rattle.ways.proofs.may_begin.Reads as may-begin-reads
+use Rattle.ways.proofs.stretch.Given as goal
+
+abbrev pub invariant-loop-rest : goal.invariant-loop-rest
+invariant-loop-rest l =
+    (l.rest ≤ l.left) × (length l.t ≡ length l.initial.t) × (measured l.t ≡ Sized l.s) × (stretched l.o l.left l.initial.t ≡ stretched l.o l.rest l.t)
+
+abbrev pub decreases-loop-rest : goal.decreases-loop-rest
+decreases-loop-rest l = l.rest
