@@ -3,8 +3,8 @@
 //
 // ./bench goes by what a program wrote on standard error, and not by its exit status. A line that begins `bench: ` says that the
 // program failed; any other line there is progress. Both are written through `say`, whole lines with their LF.
-ghost use Rattle.std.specs.Prelude.{◌≡◌, ◌-◌, ◌<◌, ◌≤◌, take, drop, length, IfOk};
-ghost use Rattle.std.specs.Io.KnownBytes.{Consumes, IsAtEnd};
+ghost use Rattle.std.specs.Prelude.{◌≡◌, ℕ, ◌-◌, ◌<◌, ◌≤◌, take, drop, length, IfOk, OnErr};
+ghost use Rattle.std.specs.Io.KnownBytes.{Consumes, Keeps, IsAtEnd};
 ghost use Rattle.streams.specs.InRoom.{InRoom};
 
 use std::io;
@@ -32,15 +32,19 @@ fn read_on<R: Read>(input: &mut R, room: &mut [u8], from: usize) -> io::Result<u
     ensures bytes { IfOk result (λ n.
         Consumes (R.remaining input.old) (R.remaining input.new) (take n (drop from room.new))) }
     ensures end { IfOk result (λ n. n ≡ 0 → from < length room.old → IsAtEnd (R.remaining input.new)) }
+    ensures err { OnErr result (Keeps (R.remaining input.old) (R.remaining input.new)) }
 {
     input.read(&mut room[from..])
 }
 
-// Reads the input to its end, or until the room is full, and answers how many bytes stand at the room's start.
+// Reads the input to its end, or until the room is full, and answers how many bytes stand at the room's start. Where a read fails, what
+// came before it stands there: nothing that was read is lost.
 pub fn fill<R: Read>(input: &mut R, room: &mut [u8]) -> io::Result<usize>
     ensures in_room { IfOk result (λ n. n ≤ length room.new) }
     ensures bytes { IfOk result (λ n. Consumes (R.remaining input.old) (R.remaining input.new) (take n room.new)) }
     ensures end { IfOk result (λ n. n < length room.new → IsAtEnd (R.remaining input.new)) }
+    ensures err { OnErr result ((n : ℕ) × (n ≤ length room.new)
+        × Consumes (R.remaining input.old) (R.remaining input.new) (take n room.new)) }
 {
     let mut done = 0;
     while done < room.len() {
