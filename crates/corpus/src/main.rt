@@ -1,8 +1,9 @@
+#![tactic(auto)]
 // Runs each schedule of the packed corpus: a header of 48 bytes with the title and the schedule's length, and the schedule.
-ghost use Rattle.std.specs.Prelude.{◌≤◌, length};
+ghost use Rattle.std.specs.Prelude.{◌≤◌, length, IfOk};
 
-use libc::{STDIN_FILENO, STDOUT_FILENO};
 use logs::{Kind, Logged};
+use std::io;
 
 fn digit(b: u8) -> usize
     ensures { result ≤ 9 }
@@ -25,13 +26,13 @@ fn length_in(header: &[u8; 48]) -> usize {
 }
 
 // Reads n bytes, if the text has room for them, and answers how many there were.
-fn read_text(text: &mut [u8], n: usize) -> usize
-    ensures { result ≤ length text.new }
+fn read_text(rt: &HostRuntime, text: &mut [u8], n: usize) -> io::Result<usize>
+    ensures { IfOk result (λ n. n ≤ length text.new) }
 {
     if n <= text.len() {
-        io::read_full(STDIN_FILENO, &mut text[..n])
+        streams::fill(&mut rt.stdin(), &mut text[..n])
     } else {
-        0
+        Ok(0)
     }
 }
 
@@ -69,51 +70,65 @@ fn cut_bounds(log: &mut [u8], n: usize) -> usize
 }
 
 // The log. The bounds log must be the same but for the bounds: where it is not, a line in the log's place says so.
-fn write_logs(text: &[u8], table: &mut [u16], room: &mut [u8], second: &mut [u8]) -> bool {
+fn write_logs(
+    rt: &HostRuntime,
+    text: &[u8],
+    table: &mut [u16],
+    room: &mut [u8],
+    second: &mut [u8],
+) -> io::Result<bool> {
     let Logged::Bytes(m) = logs::write_log(Kind::Plain, text, table, room) else {
-        return false;
+        return Ok(false);
     };
     let Logged::Bytes(n) = logs::write_log(Kind::Bounds, text, table, second) else {
-        return false;
+        return Ok(false);
     };
     let left = cut_bounds(second, n);
-    if check::same(&room[..m], &second[..left]) {
-        io::write_all(STDOUT_FILENO, &room[..m])
+    if room[..m] == second[..left] {
+        rt.write_all(&room[..m])?;
     } else {
-        io::write_all(
-            STDOUT_FILENO,
-            b"the two logs differ in more than the bounds\n",
-        )
+        rt.write_all(b"the two logs differ in more than the bounds\n")?;
     }
+    Ok(true)
 }
 
 // The next case, if there is one: its title, and its log.
-fn run_case(text: &mut [u8], table: &mut [u16], room: &mut [u8], second: &mut [u8]) -> bool {
+fn run_case(
+    rt: &HostRuntime,
+    text: &mut [u8],
+    table: &mut [u16],
+    room: &mut [u8],
+    second: &mut [u8],
+) -> io::Result<bool> {
     let mut header = [0u8; 48];
-    if io::read_full(STDIN_FILENO, &mut header) != 48 {
-        return false;
+    if streams::fill(&mut rt.stdin(), &mut header)? != 48 {
+        return Ok(false);
     }
-    let n = read_text(text, length_in(&header));
-    io::write_all(STDOUT_FILENO, &header[..41]);
-    io::write_all(STDOUT_FILENO, b"\n");
-    write_logs(&text[..n], table, room, second)
+    let n = read_text(rt, text, length_in(&header))?;
+    rt.write_all(&header[..41])?;
+    rt.write_all(b"\n")?;
+    write_logs(rt, &text[..n], table, room, second)
 }
 
-fn run_cases(text: &mut [u8], table: &mut [u16], room: &mut [u8], second: &mut [u8]) {
-    let mut i: usize = 0;
-    while i < 65536 {
-        if run_case(text, table, room, second) {
-            i += 1;
-        } else {
-            return;
+fn run_cases(
+    rt: &HostRuntime,
+    text: &mut [u8],
+    table: &mut [u16],
+    room: &mut [u8],
+    second: &mut [u8],
+) -> io::Result<()> {
+    for _ in 0..65536u32 {
+        if !run_case(rt, text, table, room, second)? {
+            return Ok(());
         }
     }
+    Ok(())
 }
 
-fn main() {
+fn main(rt: HostRuntime) -> io::Result<()> {
     let mut text = [0u8; 65537];
     let mut table = [0u16; logs::TABLE];
     let mut room = [0u8; logs::ROOM];
     let mut second = [0u8; logs::BOUNDS_ROOM];
-    run_cases(&mut text, &mut table, &mut room, &mut second);
+    run_cases(&rt, &mut text, &mut table, &mut room, &mut second)
 }

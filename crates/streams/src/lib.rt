@@ -1,11 +1,14 @@
+#![tactic(auto)]
 // Standard input and output for the programs, each a thin main over a proved function.
 //
-// A program has no exit status of its own: ./bench goes by what it wrote on standard error. A line that begins `bench: ` says
-// that the program failed; any other line there is progress. Both are written through `say`, whole lines with their LF.
-ghost use Rattle.std.specs.Prelude.{◌-◌, ◌≤◌, length};
+// ./bench goes by what a program wrote on standard error, and not by its exit status. A line that begins `bench: ` says that the
+// program failed; any other line there is progress. Both are written through `say`, whole lines with their LF.
+ghost use Rattle.std.specs.Prelude.{◌≡◌, ℕ, ◌-◌, ◌<◌, ◌≤◌, take, drop, length, IfOk, OnErr};
+ghost use Rattle.std.specs.Io.KnownBytes.{Consumes, Keeps, IsAtEnd};
 ghost use Rattle.streams.specs.InRoom.{InRoom};
 
-use libc::{STDERR_FILENO, STDIN_FILENO, STDOUT_FILENO};
+use std::io;
+use std::io::Read;
 
 #[derive(Drop)]
 pub enum Input {
@@ -15,52 +18,63 @@ pub enum Input {
     Failed,
 }
 
-// One line for the person who waits.
-pub fn say(line: &[u8]) {
-    io::write_all(STDERR_FILENO, line);
+// One line for the person who waits. Where it cannot be written, nobody is left to be told.
+pub fn say(rt: &HostRuntime, line: &[u8]) {
+    let _ = rt.stderr().write_all(line);
 }
 
 // One read, into the room from a place on.
-fn read_on(room: &mut [u8], from: usize) -> Input
+fn read_on<R: Read>(input: &mut R, room: &mut [u8], from: usize) -> io::Result<usize>
     requires { from ≤ length room.old }
-    ensures { InRoom result (length room.old - from) }
+    ensures len { length room.new ≡ length room.old }
+    ensures in_room { IfOk result (λ n. n ≤ length room.old - from) }
+    ensures front { take from room.new ≡ take from room.old }
+    ensures bytes { IfOk result (λ n.
+        Consumes (R.remaining input.old) (R.remaining input.new) (take n (drop from room.new))) }
+    ensures end { IfOk result (λ n. n ≡ 0 → from < length room.old → IsAtEnd (R.remaining input.new)) }
+    ensures err { OnErr result (Keeps (R.remaining input.old) (R.remaining input.new)) }
 {
-    let rest = &mut room[from..];
-    let got = libc::read(STDIN_FILENO, rest);
-    if got < 0 {
-        Input::Failed
-    } else {
-        Input::Bytes(io::count(got, rest))
-    }
+    input.read(&mut room[from..])
 }
 
-// Reads standard input to its end, or until the room is full. A failure has been said when this answers it.
-pub fn read_input(room: &mut [u8]) -> Input
-    ensures { InRoom result (length room.new) }
+// Reads the input to its end, or until the room is full, and answers how many bytes stand at the room's start. Where a read fails, what
+// came before it stands there: nothing that was read is lost.
+pub fn fill<R: Read>(input: &mut R, room: &mut [u8]) -> io::Result<usize>
+    ensures in_room { IfOk result (λ n. n ≤ length room.new) }
+    ensures bytes { IfOk result (λ n. Consumes (R.remaining input.old) (R.remaining input.new) (take n room.new)) }
+    ensures end { IfOk result (λ n. n < length room.new → IsAtEnd (R.remaining input.new)) }
+    ensures err { OnErr result ((n : ℕ) × (n ≤ length room.new)
+        × Consumes (R.remaining input.old) (R.remaining input.new) (take n room.new)) }
 {
     let mut done = 0;
     while done < room.len() {
-        match read_on(room, done) {
-            Input::Failed => {
-                say(b"bench: standard input could not be read\n");
-                return Input::Failed;
-            }
-            Input::Bytes(n) => {
-                if n == 0 {
-                    return Input::Bytes(done);
-                }
-                done += n;
-            }
+        let n = read_on(input, room, done)?;
+        if n == 0 {
+            return Ok(done);
+        }
+        done += n;
+    }
+    Ok(done)
+}
+
+// Reads standard input to its end, or until the room is full. A failure has been said when this answers it.
+pub fn read_input(rt: &HostRuntime, room: &mut [u8]) -> Input
+    ensures { InRoom result (length room.new) }
+{
+    match fill(&mut rt.stdin(), room) {
+        Ok(n) => Input::Bytes(n),
+        Err(_) => {
+            say(rt, b"bench: standard input could not be read\n");
+            Input::Failed
         }
     }
-    Input::Bytes(done)
 }
 
 // Writes the bytes to standard output and answers whether all could be written. A failure has been said.
-pub fn write_output(bytes: &[u8]) -> bool {
-    if io::write_all(STDOUT_FILENO, bytes) {
+pub fn write_output(rt: &HostRuntime, bytes: &[u8]) -> bool {
+    if rt.write_all(bytes).is_ok() {
         return true;
     }
-    say(b"bench: standard output could not be written\n");
+    say(rt, b"bench: standard output could not be written\n");
     false
 }

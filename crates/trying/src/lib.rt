@@ -1,3 +1,4 @@
+#![tactic(auto)]
 // What the program tries does: it reads a task, and prints its schedules, or how many there are and their outcomes.
 ghost use Rattle.std.specs.Prelude.{◌≡◌};
 ghost use Rattle.loglines.specs.Lines.{text_line};
@@ -15,6 +16,7 @@ ghost use Rattle.trying.specs.Bounds.{digit_on, bound_in};
 
 use loglines::Pen;
 use outcomes::Written;
+use std::env::{Env, FillError};
 use tasks::Task;
 use text::Opening;
 use tries::{Number, Tried};
@@ -89,19 +91,21 @@ fn read_bound(digits: &[u8]) -> Bound
 }
 
 // What the program's arguments ask for: none, `-n B` or `-c`.
-pub fn read_arguments() -> Asked {
-    if os::arg_count() <= 1 {
-        return Asked::Schedules(BOUND);
-    }
+pub fn read_arguments(rt: &impl Env) -> Asked {
     let mut word = [0u8; 16];
-    let n = os::arg(1, &mut word);
+    let n = match rt.arg(1, &mut word) {
+        Ok(n) => n,
+        Err(FillError::NotPresent) => return Asked::Schedules(BOUND),
+        Err(FillError::TooLong) => return Asked::Unknown,
+    };
     if heads::stands_at(&word[..n], 0, b"-c") {
         return Asked::Outcomes;
     }
     if heads::stands_at(&word[..n], 0, b"-n") {
-        let m = os::arg(2, &mut word);
-        if let Bound::Is(bound) = read_bound(&word[..m]) {
-            return Asked::Schedules(bound);
+        if let Ok(m) = rt.arg(2, &mut word) {
+            if let Bound::Is(bound) = read_bound(&word[..m]) {
+                return Asked::Schedules(bound);
+            }
         }
     }
     Asked::Unknown
@@ -191,15 +195,15 @@ pub fn write_outcomes(text: &[u8], room: &mut [u8]) -> Answer
 // ---- standard output
 
 // Prints the schedules, at most so many, and says where there are more. Answers false where the room is too small, and prints nothing.
-pub fn print_schedules(text: &[u8], bound: u32, room: &mut [u8]) -> bool {
+pub fn print_schedules(rt: &HostRuntime, text: &[u8], bound: u32, room: &mut [u8]) -> bool {
     match write_schedules(text, bound, room) {
         Answer::Whole(n) => {
-            streams::write_output(&room[..n]);
+            streams::write_output(rt, &room[..n]);
             true
         }
         Answer::First(n) => {
-            streams::write_output(&room[..n]);
-            streams::say(b"bench: there are more schedules than these\n");
+            streams::write_output(rt, &room[..n]);
+            streams::say(rt, b"bench: there are more schedules than these\n");
             true
         }
         Answer::NoRoom => false,
@@ -207,14 +211,14 @@ pub fn print_schedules(text: &[u8], bound: u32, room: &mut [u8]) -> bool {
 }
 
 // Prints how many schedules there are, and their outcomes.
-pub fn print_outcomes(text: &[u8]) {
+pub fn print_outcomes(rt: &HostRuntime, text: &[u8]) {
     let mut room = [0u8; outcomes::LINES];
     match write_outcomes(text, &mut room) {
         Answer::Whole(n) => {
-            streams::write_output(&room[..n]);
+            streams::write_output(rt, &room[..n]);
         }
         // never
         Answer::First(_) => {}
-        Answer::NoRoom => streams::say(b"bench: the outcomes do not fit the room\n"),
+        Answer::NoRoom => streams::say(rt, b"bench: the outcomes do not fit the room\n"),
     }
 }
