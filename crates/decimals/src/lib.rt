@@ -1,4 +1,6 @@
 // Decimal numbers 0 to 65,535 with no leading zero, and fields: a number with the byte that ends it.
+#![tactic(auto)]
+
 ghost use Rattle.std.specs.Prelude.{◌≡◌, ◌+◌, ◌-◌, ◌*◌, ◌%◌, ◌≤◌, length};
 ghost use Rattle.heads.specs.Put.{Put};
 ghost use Rattle.decimals.specs.Decimals.{
@@ -12,7 +14,7 @@ ghost use Rattle.decimals.specs.Decimals.{
 };
 
 // What stands at a place: a number, with the place after the byte that ends it, or no such field.
-#[derive(Drop)]
+#[derive(Clone, Copy)]
 pub enum FieldRead {
     Number(u16, usize),
     Wrong,

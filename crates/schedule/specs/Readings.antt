@@ -7,7 +7,7 @@ use Rattle.words.specs.Layout.{level, queue, node}
 use Rattle.decimals.specs.declared.FieldRead.{FieldRead}
 use Rattle.decimals.specs.declared.FieldRead.TheVariants.{Number, Wrong}
 use Rattle.decimals.specs.Decimals.{field_at, field_of}
-use Rattle.decimals.specs.Inverse.{field_reads}
+use Rattle.decimals.proofs.ReadBack.{field_reads}
 use Rattle.heads.specs.Heads.{stands_at}
 use Rattle.heads.specs.Laws.{stands_is}
 use Rattle.text.specs.declared.Opening.{Opening}
