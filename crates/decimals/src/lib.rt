@@ -32,6 +32,7 @@ fn is_digit(b: u8) -> bool
     if 48 <= b { b <= 57 } else { false }
 }
 
+#[tactic(auto, using(crate::specs::Laws::digit_is), unfolding(crate::specs::Decimals::goes_on))]
 fn goes_on(v: usize, b: u8) -> bool
     requires { v ≤ 65535 }
     ensures { result ≡ goes_on v b }
