@@ -149,6 +149,7 @@ fn dequeue_in(text: &[u8], at: usize) -> EventFound
     EventFound::Found(Event::Dequeue(Level(l), Queue(q)), next)
 }
 
+#[tactic(auto, unfolding(crate::specs::Reading::steps_in))]
 fn steps_in(text: &[u8], at: usize) -> EventFound
     ensures { result ≡ steps_in text.now at }
 {
