@@ -1,9 +1,9 @@
--- Reading a field and writing one are inverse: `field-reads` and `field-written`.
-use Rattle.std.specs.Prelude.{ℕ, zero, suc, ◌+◌, ◌-◌, ◌*◌, ◌/◌, ◌%◌, ◌≤◌, ◌<◌, ◌≡◌, refl, ◌⊎◌, List, [], ◌∷◌, ◌++◌, Bool, true, false, cond, length, drop, ltb, eqb}
-use Rattle.std.proofs.Common.{sym, ap, ◌∙◌, inl, inr, append_assoc, arith, add-one, drop-drop, ltb-true, ltb-false, lt-ltb, le-ltb, le-leb, eq-eqb, eqb-true}
-use Rattle.decimals.specs.declared.FieldRead.TheVariants.{Number, Wrong}
+-- Reading a field and writing one are inverse: `field_reads` of proofs/ReadBack and `field_written`.
+use Rattle.std.specs.Prelude.{ℕ, zero, suc, ◌+◌, ◌-◌, ◌*◌, ◌/◌, ◌%◌, ◌≤◌, ◌<◌, ◌≡◌, refl, ◌⊎◌, List, [], ◌∷◌, ◌++◌, Bool, true, false, cond, length, drop, ltb}
+use Rattle.std.proofs.Common.{sym, ap, ◌∙◌, inl, inr, append_assoc, arith, add-one, ltb-true, ltb-false, lt-ltb, le-ltb, le-leb, eq-eqb}
+use Rattle.decimals.specs.declared.FieldRead.TheVariants.{Number}
 use Rattle.decimals.specs.Decimals.{width_of, last_digits, digits_of, field_of, is_digit, with_digit, goes_on, rest_in, field_in, field_at}
-use Rattle.decimals.specs.Laws.{digit_is, digits_one, goes_on_is, length_field, Digit}
+use Rattle.decimals.specs.Laws.{digits_one, length_field, Digit}
 
 below? : (a b : ℕ) → (a < b) ⊎ (b ≤ a)
 below? a b = by (ltb a b) refl
@@ -35,7 +35,7 @@ width_more v w p l h top =
     by false false true = refl
     by false false false = refl
 
-digits_more : (v b : ℕ) → Digit v b → digits_of (with_digit v b) ≡ digits_of v ++ (b ∷ [])
+pub digits_more : (v b : ℕ) → Digit v b → digits_of (with_digit v b) ≡ digits_of v ++ (b ∷ [])
 unfolding digits_of last_digits
 digits_more v b d =
     let q : with_digit v b / 10 ≡ v = omega (arith, d) in
@@ -47,72 +47,6 @@ pub record Field (n end at next : ℕ) (s t : List ℕ) : Type 0 where
   pub small : n ≤ 65535
   pub on : at < next
   pub is : s ≡ field_of n end ++ t
-
--- the bytes after a place are what the bytes after its first are
-drop_on : (at next b : ℕ) (s : List ℕ) → suc at < next → drop (next - at) (b ∷ s) ≡ drop (next - suc at) s
-drop_on at next b s h = let e : next - at ≡ suc (next - suc at) = omega arith in rw e
-
-rest_reads : (end v at n next : ℕ) (s : List ℕ) → v ≤ 65535 → rest_in end v at s ≡ Number n next
-    → Field n end at next (digits_of v ++ s) (drop (next - at) s)
-unfolding rest_in field_of
-rest_reads end v at n next [] small e = let z : ◌≡◌ {A = ℕ} 0 1 = cc in absurd (omega arith)
-rest_reads end v at n next (b ∷ s) small e =
-    by (goes_on v b) refl (eqb b end) refl e (rest_reads end (with_digit v b) (suc at) n next s)
-  where
-    by : (g : Bool) → goes_on v b ≡ g → (t : Bool) → eqb b end ≡ t
-        → cond g (rest_in end (with_digit v b) (suc at) s) (cond t (Number v (suc at)) Wrong) ≡ Number n next
-        → (with_digit v b ≤ 65535 → rest_in end (with_digit v b) (suc at) s ≡ Number n next
-        → Field n end (suc at) next (digits_of (with_digit v b) ++ s) (drop (next - suc at) s))
-        → Field n end at next (digits_of v ++ (b ∷ s)) (drop (next - at) (b ∷ s))
-    by true g t f h ih =
-        let d = goes_on_is v b g in
-        let r = ih d.fits h in
-        record {
-          small = r.small;
-          on = omega arith;
-          is =
-              sym (append_assoc (digits_of v) (b ∷ []) s)
-              ∙ ap (λ (l : List ℕ). l ++ s) (sym (digits_more v b d))
-              ∙ r.is
-              ∙ ap (λ (l : List ℕ). field_of n end ++ l) (sym (drop_on at next b s r.on));
-        }
-    by false g true f h ih =
-        let m : v ≡ n = cc in
-        let k : suc at ≡ next = cc in
-        let e : b ≡ end = eqb-true b end f in
-        let o : next - at ≡ 1 = omega arith in
-        record { small = omega arith; on = omega arith; is = rw (o, m, e) (sym (append_assoc (digits_of n) (end ∷ []) s)) }
-    by false g false f h ih = let z : ◌≡◌ {A = ℕ} 0 1 = cc in absurd (omega arith)
-
-field_in_reads : (end at n next : ℕ) (s : List ℕ) → field_in end at s ≡ Number n next → Field n end at next s (drop (next - at) s)
-unfolding field_in
-field_in_reads end at n next [] e = let z : ◌≡◌ {A = ℕ} 0 1 = cc in absurd (omega arith)
-field_in_reads end at n next (b ∷ s) e = by (is_digit b) refl e
-  where
-    by : (g : Bool) → is_digit b ≡ g → cond g (rest_in end (b - 48) (suc at) s) Wrong ≡ Number n next
-        → Field n end at next (b ∷ s) (drop (next - at) (b ∷ s))
-    by true g h =
-        let d = digit_is b g in
-        let r = rest_reads end (b - 48) (suc at) n next s (omega arith) h in
-        let one : digits_of (b - 48) ≡ b ∷ [] = digits_one (b - 48) (omega arith) ∙ ap (λ (x : ℕ). x ∷ []) (omega arith) in
-        record {
-          small = r.small;
-          on = omega arith;
-          is =
-              ap (λ (l : List ℕ). l ++ s) (sym one)
-              ∙ r.is
-              ∙ ap (λ (l : List ℕ). field_of n end ++ l) (sym (drop_on at next b s r.on));
-        }
-    by false g h = let z : ◌≡◌ {A = ℕ} 0 1 = cc in absurd (omega arith)
-
--- a field that is read is the number's digits and the byte that ends it
-pub field_reads : (end : ℕ) (text : List ℕ) (at n next : ℕ) → field_at end text at ≡ Number n next
-    → Field n end at next (drop at text) (drop next text)
-unfolding field_at
-field_reads end text at n next e =
-    let r = field_in_reads end at n next (drop at text) e in
-    let o : at + (next - at) ≡ next = omega arith in
-    record { small = r.small; on = r.on; is = r.is ∙ rw (drop-drop, o) }
 
 -- the digits of a number are read as that number
 abbrev Run : ℕ → ℕ → ℕ → List ℕ → Type 0

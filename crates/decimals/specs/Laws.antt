@@ -60,10 +60,6 @@ pub rest_cons : (end : ℕ) (text : List ℕ) (n at : ℕ) → at < length text
 unfolding rest_of rest_in
 rest_cons end text n at h = rw (drop-cons text at 0, add-one)
 
-pub rest_none : (end : ℕ) (text : List ℕ) (n at : ℕ) → length text ≤ at → rest_of end text n at ≡ Wrong
-unfolding rest_of rest_in
-rest_none end text n at h = rw (drop_of_length-le text {i = at} h)
-
 pub record Digit (n b : ℕ) : Type 0 where
   pub low : 48 ≤ b
   pub high : b ≤ 57

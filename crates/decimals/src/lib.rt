@@ -1,4 +1,6 @@
 // Decimal numbers 0 to 65,535 with no leading zero, and fields: a number with the byte that ends it.
+#![tactic(auto)]
+
 ghost use Rattle.std.specs.Prelude.{◌≡◌, ◌+◌, ◌-◌, ◌*◌, ◌%◌, ◌≤◌, length};
 ghost use Rattle.heads.specs.Put.{Put};
 ghost use Rattle.decimals.specs.Decimals.{
@@ -12,7 +14,7 @@ ghost use Rattle.decimals.specs.Decimals.{
 };
 
 // What stands at a place: a number, with the place after the byte that ends it, or no such field.
-#[derive(Drop)]
+#[derive(Clone, Copy)]
 pub enum FieldRead {
     Number(u16, usize),
     Wrong,
@@ -30,6 +32,7 @@ fn is_digit(b: u8) -> bool
     if 48 <= b { b <= 57 } else { false }
 }
 
+#[tactic(auto, using(crate::specs::Laws::digit_is), unfolding(crate::specs::Decimals::goes_on))]
 fn goes_on(v: usize, b: u8) -> bool
     requires { v ≤ 65535 }
     ensures { result ≡ goes_on v b }

@@ -1,4 +1,6 @@
 // The fixed words of a line, as byte strings: compared and written.
+#![tactic(auto)]
+
 ghost use Rattle.std.specs.Prelude.{◌≡◌, ◌+◌, ◌≤◌, length};
 ghost use Rattle.heads.specs.Heads.{stands_at};
 ghost use Rattle.heads.specs.Put.{Put};

@@ -1,4 +1,6 @@
 // The lines of a schedule's text, measured and written.
+#![tactic(auto)]
+
 ghost use Rattle.std.specs.Prelude.{◌≡◌, ◌+◌, ◌≤◌, length};
 ghost use Rattle.heads.specs.Put.{Put};
 ghost use Rattle.text.specs.Text.{event_text, opening_text};

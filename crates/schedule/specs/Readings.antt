@@ -1,5 +1,5 @@
 -- From a reading to the bytes that were read.
-use Rattle.std.specs.Prelude.{ℕ, zero, suc, ◌+◌, ◌-◌, ◌≤◌, ◌≡◌, refl, List, [], ◌∷◌, ◌++◌, Bool, true, false, cond, ◌&&◌, length, drop, leb, eqb}
+use Rattle.std.specs.Prelude.{ℕ, zero, suc, ◌+◌, ◌≤◌, ◌≡◌, refl, List, [], ◌∷◌, ◌++◌, Bool, true, false, cond, ◌&&◌, length, drop, leb, eqb}
 use Rattle.std.proofs.Common.{ap, ◌∙◌, append_assoc, append-nil, arith, leb-true, eqb-true}
 use Rattle.std.proofs.Math.Bool.{and-eq-true_iff}
 use Rattle.std.proofs.Math.Seq.{drop-length}
@@ -7,7 +7,7 @@ use Rattle.words.specs.Layout.{level, queue, node}
 use Rattle.decimals.specs.declared.FieldRead.{FieldRead}
 use Rattle.decimals.specs.declared.FieldRead.TheVariants.{Number, Wrong}
 use Rattle.decimals.specs.Decimals.{field_at, field_of}
-use Rattle.decimals.specs.Inverse.{field_reads}
+use Rattle.decimals.proofs.ReadBack.{field_reads}
 use Rattle.heads.specs.Heads.{stands_at}
 use Rattle.heads.specs.Laws.{stands_is}
 use Rattle.text.specs.declared.Opening.{Opening}

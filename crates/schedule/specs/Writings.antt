@@ -15,7 +15,7 @@ use Rattle.text.specs.declared.Event.TheVariants.{Enqueue, Dequeue, Steps}
 use Rattle.text.specs.declared.EventFound.TheVariants.{Found}
 use Rattle.text.specs.Text.{lf, space, head_sizes, head_e, head_d, head_s, longest, opening_text, event_text, events_text, text_of}
 use Rattle.text.specs.Answer.{gives}
-use Rattle.text.specs.Reading.{with, enqueue_in, dequeue_in, steps_in, event_in, found, line_starts, number_line, sizes_reading, event_reading, end_reading}
+use Rattle.text.specs.Reading.{enqueue_in, dequeue_in, steps_in, event_in, found, line_starts, number_line, sizes_reading, event_reading, end_reading}
 use Rattle.text.specs.Laws.{starts_in}
 use Rattle.schedule.specs.Meaning.{small, sound, all_sound, Writable}
 use Rattle.schedule.specs.Whole.{events_reading, schedule_reading}

@@ -1,4 +1,6 @@
 // A whole schedule text, read from its first line to its end.
+#![tactic(auto)]
+
 ghost use Rattle.std.specs.Prelude.{◌≡◌};
 ghost use Rattle.text.specs.Reading.{sizes_answer, end_answer};
 ghost use Rattle.schedule.specs.Whole.{rest_reading, check_reading};

@@ -1,4 +1,6 @@
 // Schedule text: the sizes, an event and the end, read at a place.
+#![tactic(auto)]
+
 ghost use Rattle.std.specs.Prelude.{◌≡◌, ◌&&◌, [], ◌∷◌, eqb, ◌+◌, ◌≤◌, length, take};
 ghost use Rattle.heads.specs.Heads.{stands_at};
 ghost use Rattle.text.specs.Text.{head_sizes};
@@ -21,7 +23,7 @@ ghost use Rattle.text.specs.Reading.{
 use decimals::FieldRead;
 use words::{Level, Node, Queue};
 
-#[derive(Drop)]
+#[derive(Clone, Copy)]
 pub enum Event {
     Enqueue(Level, Queue, Node),
     Dequeue(Level, Queue),
@@ -29,7 +31,7 @@ pub enum Event {
 }
 
 // The sizes L, Q and N, and the count of events.
-#[derive(Drop)]
+#[derive(Clone, Copy)]
 pub struct Opening {
     pub levels: u16,
     pub queues: u16,
@@ -38,26 +40,26 @@ pub struct Opening {
 }
 
 // What was read with the next place, or the line of refusal 13.
-#[derive(Drop)]
+#[derive(Clone, Copy)]
 pub enum SizesRead {
     Read(Opening, usize),
     Refused(usize),
 }
 
-#[derive(Drop)]
+#[derive(Clone, Copy)]
 pub enum EventRead {
     Read(Event, usize),
     Refused(usize),
 }
 
-#[derive(Drop)]
+#[derive(Clone, Copy)]
 pub enum EndRead {
     Ends,
     Refused(usize),
 }
 
 // The event of a line that starts at a place, with the place after the line.
-#[derive(Drop)]
+#[derive(Clone, Copy)]
 pub enum EventFound {
     Found(Event, usize),
     Nothing,
@@ -147,6 +149,7 @@ fn dequeue_in(text: &[u8], at: usize) -> EventFound
     EventFound::Found(Event::Dequeue(Level(l), Queue(q)), next)
 }
 
+#[tactic(auto, unfolding(crate::specs::Reading::steps_in))]
 fn steps_in(text: &[u8], at: usize) -> EventFound
     ensures { result ≡ steps_in text.now at }
 {

@@ -1,4 +1,6 @@
 // A schedule that is lent as words, written as its text.
+#![tactic(auto)]
+
 ghost use Rattle.std.specs.Prelude.{◌≡◌, ◌+◌, ◌≤◌, length};
 ghost use Rattle.heads.specs.Put.{Put};
 ghost use Rattle.writing.specs.Writing.{is_kind, event_in, opening_in, writing, written_answer};
@@ -14,14 +16,14 @@ use text::{Event, EventFound, LONGEST, Opening};
 use words::{Level, Node, Queue};
 
 // The text's length, the line of refusal 13, or refusal 12.
-#[derive(Drop)]
+#[derive(Clone, Copy)]
 pub enum Written {
     Length(usize),
     Refused(usize),
     NoRoom,
 }
 
-#[derive(Drop)]
+#[derive(Clone, Copy)]
 pub enum Measured {
     Length(usize),
     Refused(usize),
@@ -39,6 +41,7 @@ fn is_kind(words: &[u16], at: usize, kind: u16, n: usize) -> bool
     }
 }
 
+#[tactic(auto, unfolding(crate::specs::Writing::event_in))]
 fn event_in(words: &[u16], at: usize) -> EventFound
     requires { at ≤ length words.now }
     ensures { result ≡ event_in words.now at }

@@ -28,7 +28,7 @@ returns-3 c =
     let event-at = c.before.before.before.before.before.before.event-at.ensures in
     let e-is = c.before.before.before.before.e.given.1 in
     let told = c.before.enum-told3.given.1 in
-    sym (operation_is _ _ _ _ _ event-at e-is ∙ rw (told, c.line_at_lem.ensures))
+    sym (operation_is _ _ _ _ _ event-at e-is ∙ rw (told, c.line_at.ensures))
 
 returns-4 : tie.Need-returns-4
 unfolding event_answer

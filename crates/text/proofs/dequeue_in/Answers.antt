@@ -1,0 +1,15 @@
+use mathlib.Core.Path.{sym, ◌∙◌}
+use Rattle.text.specs.Reading.{dequeue_in}
+use Rattle.text.proofs.dequeue_in.Goals as goal
+
+pub returns-in_default : goal.returns-in_default
+unfolding dequeue_in
+returns-in_default c = simp (sym c.read_field.ensures ∙ c.in_default.is)
+
+pub returns-in_default-read_field : goal.returns-in_default-read_field
+unfolding dequeue_in
+returns-in_default-read_field c = simp (sym c.read_field.ensures ∙ c.in-Number.is, sym c.read_field-2.ensures ∙ c.in_default-read_field.is)
+
+pub returns : goal.returns
+unfolding dequeue_in
+returns c = simp (sym c.read_field.ensures ∙ c.in-Number.is, sym c.read_field-2.ensures ∙ c.in-Number-read_field.is)
