@@ -1,4 +1,6 @@
 // The calls for a caller in C.
+#![tactic(auto)]
+
 ghost use Rattle.std.specs.Prelude.{◌≡◌};
 ghost use Rattle.words.specs.Layout.{level, queue, node};
 ghost use Rattle.answers.specs.Said.{done_says, step_says, run_says, quiet_says, count_says, waiting_says};

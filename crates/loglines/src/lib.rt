@@ -1,4 +1,6 @@
 // The lines of the log, written one after another into lent room as far as it reaches.
+#![tactic(auto)]
+
 ghost use Rattle.std.specs.Prelude.{◌≡◌, ◌≤◌, length, take};
 ghost use Rattle.answers.specs.Most.{enqueue_most};
 ghost use Rattle.decimals.specs.Decimals.{digits_of, field_of};
@@ -18,14 +20,14 @@ use answers::End;
 use words::{Level, Queue};
 
 // How many bytes are written; or that the room was too small for the next one, after which nothing is written.
-#[derive(Drop)]
+#[derive(Clone, Copy)]
 pub enum Pen {
     At(usize),
     Full,
 }
 
 // What stands beside an enqueue's steps in its line: nothing, or the bound on them in a table of so many nodes.
-#[derive(Drop)]
+#[derive(Clone, Copy)]
 pub enum Beside {
     Nothing,
     Bound(u16),
