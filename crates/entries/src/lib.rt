@@ -1,4 +1,6 @@
 // The text of a schedule, measured and written from its operations and the steps between their begins.
+#![tactic(auto)]
+
 ghost use Rattle.std.specs.Prelude.{◌≡◌, ◌+◌, ◌*◌, ◌≤◌, length};
 ghost use Rattle.heads.specs.Put.{Put};
 ghost use Rattle.text.specs.Text.{events_text, text_of};
@@ -9,7 +11,7 @@ use text::{Event, Opening};
 use ways::Op;
 
 // How many events, and how many bytes their lines take.
-#[derive(Drop)]
+#[derive(Clone, Copy)]
 pub struct Size {
     pub events: u16,
     pub bytes: usize,

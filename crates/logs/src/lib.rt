@@ -1,4 +1,6 @@
 // The whole log of a schedule's text, plain or with the bounds.
+#![tactic(auto)]
+
 ghost use Rattle.std.specs.Prelude.{◌≡◌};
 ghost use Rattle.loglines.specs.declared.Pen.TheVariants.{At};
 ghost use Rattle.loglines.specs.Ink.{ink};
@@ -22,14 +24,14 @@ use text::{Opening, SizesRead};
 use words::Queue;
 
 // The log as it is, or the bounds log: the bound on its steps stands last in each E line.
-#[derive(Drop)]
+#[derive(Clone, Copy)]
 pub enum Kind {
     Plain,
     Bounds,
 }
 
 // The log's length; or the refusal of a table or a room that is too small.
-#[derive(Drop)]
+#[derive(Clone, Copy)]
 pub enum Logged {
     Bytes(usize),
     Refused(u16),

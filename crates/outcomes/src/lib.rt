@@ -1,5 +1,7 @@
 // The outcomes of schedules: what the dequeues returned and the nodes that each queue has at the end. They are counted over many schedules
 // and written as lines.
+#![tactic(auto)]
+
 ghost use Rattle.std.specs.Prelude.{◌≡◌, true, ◌+◌, ◌*◌, ◌%◌, ◌≤◌, ◌<◌, [], ◌∷◌, length, take};
 ghost use Rattle.words.specs.declared.Measured.TheVariants.{Sized};
 ghost use Rattle.words.specs.Layout.{limits, measured, words};
@@ -63,7 +65,7 @@ pub const TALLIES: usize = 5122;
 pub const LINES: usize = 262144;
 
 // An outcome's numbers, four to a word.
-#[derive(Drop)]
+#[derive(Clone, Copy)]
 pub struct Key {
     pub a: u64,
     pub b: u64,
@@ -72,7 +74,7 @@ pub struct Key {
 }
 
 // How many bytes were written, or 12 where the room was too small.
-#[derive(Drop)]
+#[derive(Clone, Copy)]
 pub enum Written {
     Bytes(usize),
     Refused(u16),

@@ -1,4 +1,6 @@
 // The events of a schedule, performed in order; what ends and what is refused goes into the log.
+#![tactic(auto)]
+
 ghost use Rattle.std.specs.Prelude.{◌≡◌};
 ghost use Rattle.answers.specs.Said.{done_says};
 ghost use Rattle.loglines.specs.Lines.{line_of};
@@ -10,7 +12,7 @@ use loglines::{Beside, Pen};
 use text::{Event, EventRead};
 
 // The log so far, and whether the event was refused.
-#[derive(Drop)]
+#[derive(Clone, Copy)]
 pub struct Turn {
     pub pen: Pen,
     pub done: Done,
