@@ -1,4 +1,6 @@
 // A task: sizes and at most six operations, told by a schedule's text that has E and D lines only.
+#![tactic(auto)]
+
 ghost use Rattle.std.specs.Prelude.{◌≡◌, ◌+◌, ◌≤◌};
 ghost use Rattle.std.proofs.lemmas.List.Edits.{sets};
 ghost use Rattle.heads.specs.Put.{Put};
@@ -8,7 +10,7 @@ ghost use Rattle.tasks.specs.Parts.{rest_reading, check_reading, words_from};
 
 use text::{EndRead, Event, EventRead, Opening, SizesRead};
 
-#[derive(Drop)]
+#[derive(Clone, Copy)]
 pub enum Task {
     // The sizes, and how many operations there are.
     Is(Opening),
