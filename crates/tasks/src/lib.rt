@@ -118,6 +118,7 @@ fn put_operations(text: &[u8], place: usize, count: u16, ops: &mut [u16; 24])
 }
 
 // Reads a task's text: its operations stand at the start of the words, four each; nothing is written where it is refused.
+#[tactic(auto, using(crate::specs::Laws::task_many, crate::specs::Laws::task_is), unfolding(text::specs::Reading::sizes_answer, crate::specs::Tasks::task_says))]
 pub fn read_task(text: &[u8], ops: &mut [u16; 24]) -> Task
     ensures { task_of text.now ops.old ≡ (task_says result, ops.new) }
 {
