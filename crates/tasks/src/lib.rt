@@ -1,4 +1,6 @@
 // A task: sizes and at most six operations, told by a schedule's text that has E and D lines only.
+#![tactic(auto)]
+
 ghost use Rattle.std.specs.Prelude.{◌≡◌, ◌+◌, ◌≤◌};
 ghost use Rattle.std.proofs.lemmas.List.Edits.{sets};
 ghost use Rattle.heads.specs.Put.{Put};
@@ -8,7 +10,7 @@ ghost use Rattle.tasks.specs.Parts.{rest_reading, check_reading, words_from};
 
 use text::{EndRead, Event, EventRead, Opening, SizesRead};
 
-#[derive(Drop)]
+#[derive(Clone, Copy)]
 pub enum Task {
     // The sizes, and how many operations there are.
     Is(Opening),
@@ -116,6 +118,7 @@ fn put_operations(text: &[u8], place: usize, count: u16, ops: &mut [u16; 24])
 }
 
 // Reads a task's text: its operations stand at the start of the words, four each; nothing is written where it is refused.
+#[tactic(auto, using(crate::specs::Laws::task_many, crate::specs::Laws::task_is), unfolding(text::specs::Reading::sizes_answer, crate::specs::Tasks::task_says))]
 pub fn read_task(text: &[u8], ops: &mut [u16; 24]) -> Task
     ensures { task_of text.now ops.old ≡ (task_says result, ops.new) }
 {
