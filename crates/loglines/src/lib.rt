@@ -126,6 +126,7 @@ fn enqueue_most(l: Level, nodes: u16) -> usize
 }
 
 // `E level queue node steps` or `D level queue node steps`; beside an enqueue's steps their bound, if it is asked for
+#[tactic(auto, using(crate::specs::Laws::ink_then), unfolding(crate::specs::Lines::bound_line, crate::specs::Lines::end_line))]
 pub fn put_end(room: &mut [u8], pen: Pen, e: End, beside: Beside) -> Pen
     ensures { ink (pen, room.old) (line_of beside e) ≡ (result, room.new) }
 {
