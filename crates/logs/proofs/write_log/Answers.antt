@@ -8,7 +8,7 @@ pub returns-then-room-room_of : goal.returns-then-room-room_of
 returns-then-room-room_of c = log_cramped _ _ _ _ c.if-table-lt-TABLE.false (rw c.room_of.ensures at c.if-room-room_of.true)
 
 pub returns-in-At : goal.returns-in-At
-returns-in-At c =    let if1_left = c.if-table-lt-TABLE.false in
+returns-in-At c = let if1_left = c.if-table-lt-TABLE.false in
     let room_of = c.room_of.ensures in
     let if2_left = c.if-room-room_of.false in
     let write_whole = c.write_whole.ensures in
@@ -17,7 +17,7 @@ returns-in-At c =    let if1_left = c.if-table-lt-TABLE.false in
     log_laid _ _ _ _ (rw room_of at if2_left) if1_left told
 
 pub returns-in-Full : goal.returns-in-Full
-returns-in-Full c =    let room_of = c.room_of.ensures in
+returns-in-Full c = let room_of = c.room_of.ensures in
     let if2_left = c.if-room-room_of.false in
     let write_whole = c.write_whole.ensures in
     let told' = c.in-Full.is in

@@ -3,7 +3,7 @@ use Rattle.logs.specs.Laws.{queue_listed, queue_unlisted}
 use Rattle.logs.proofs.write_queue.Goals as goal
 
 pub put_queue-requires : goal.put_queue-requires
-put_queue-requires c =    let is_listed = c.in-Are.is in
+put_queue-requires c = let is_listed = c.in-Are.is in
     let listed = c.listing.ensures in
     rw c.wide.ensures (listing_count _ _ _ _ _ (rw is_listed at listed)).1
 

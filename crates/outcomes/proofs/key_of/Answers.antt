@@ -4,7 +4,7 @@ use Rattle.outcomes.proofs.key_of.Goals as goal
 
 pub returns : goal.returns
 unfolding key_of
-returns c =    let word_of = c.word_of.ensures in
+returns c = let word_of = c.word_of.ensures in
     let word_of2 = c.word_of-2.ensures in
     let word_of3 = c.word_of-3.ensures in
     let word_of4 = c.word_of-4.ensures in

@@ -7,7 +7,7 @@ use Rattle.outcomes.specs.OutcomesLaws.{outcome_noted}
 use Rattle.outcomes.proofs.note_outcome.Goals as goal
 
 pub returns : goal.returns
-returns c =    let fresh_table_holds = c.fresh_table.ensures in
+returns c = let fresh_table_holds = c.fresh_table.ensures in
     let replay = c.replay-at.ensures in
     let put_note = c.put_note-next.ensures in
     let note_queues = c.note_queues.ensures in

@@ -4,7 +4,7 @@ use Rattle.outcomes.specs.OutcomesLaws.{queue_listed, queue_unlisted}
 use Rattle.outcomes.proofs.note_queue.Goals as goal
 
 pub returns-in-Are : goal.returns-in-Are
-returns-in-Are c =    let listing = c.listing.ensures in
+returns-in-Are c = let listing = c.listing.ensures in
     let m_is = c.in-Are.is in
     let wide = c.wide.ensures in
     let put_notes = c.put_notes-at.ensures in
@@ -13,7 +13,7 @@ returns-in-Are c =    let listing = c.listing.ensures in
 
 pub returns-in-Refused : goal.returns-in-Refused
 unfolding note
-returns-in-Refused c =    let listing = c.listing.ensures in
+returns-in-Refused c = let listing = c.listing.ensures in
     let enum_told_is = c.in-Refused.is in
     let put_note2 = c.put_note-in-Refused.ensures in
     rw (queue_unlisted _ _ _ _ (rw enum_told_is at listing)) put_note2

@@ -7,7 +7,7 @@ pub loop-i-init : goal.loop-i-init
 loop-i-init c = (search rules, refl, queues_start _ _ _)
 
 pub loop-i-preserved : goal.loop-i-preserved
-loop-i-preserved c =    let queues = c.args.queues in
+loop-i-preserved c = let queues = c.args.queues in
     let inv = c.loop-i.invariant.2 in
     let loop_i = c.loop-i.i in
     let loop_test_taken = c.loop-i-test.true in
@@ -15,7 +15,7 @@ loop-i-preserved c =    let queues = c.args.queues in
     (search rules, search rules, inv ∙ queues_more _ _ loop_i queues loop_test_taken note_queue)
 
 pub returns : goal.returns
-returns c =    let queues = c.args.queues in
+returns c = let queues = c.args.queues in
     let inv = c.loop-i.invariant.2 in
     let loop_i = c.loop-i.i in
     let loop_test_left = c.loop-i-test.false in

@@ -10,7 +10,7 @@ pub returns-then-m-i : goal.returns-then-m-i
 returns-then-m-i c = c.loop-i.invariant.2 ∙ note_enough _ _ _ c.loop-i.i c.if-m-i.true
 
 pub loop-i-preserved : goal.loop-i-preserved
-loop-i-preserved c =    let inv = c.loop-i.invariant.2 in
+loop-i-preserved c = let inv = c.loop-i.invariant.2 in
     let loop_i = c.loop-i.i in
     let loop_test_taken = c.loop-i-test.true in
     let if1_left = c.if-m-i.false in

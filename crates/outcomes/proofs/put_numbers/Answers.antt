@@ -7,7 +7,7 @@ pub loop-j-init : goal.loop-j-init
 loop-j-init c = (search rules, refl, refl)
 
 pub loop-j-preserved-then-q-queues : goal.loop-j-preserved-then-q-queues
-loop-j-preserved-then-q-queues c =    let inv = c.loop-j.invariant.2 in
+loop-j-preserved-then-q-queues c = let inv = c.loop-j.invariant.2 in
     let loop_j = c.loop-j.j in
     let loop_q = c.loop-j.q in
     let loop_test_taken = c.loop-j-test.true in
@@ -18,7 +18,7 @@ loop-j-preserved-then-q-queues c =    let inv = c.loop-j.invariant.2 in
     (search rules, search rules, inv ∙ numbers_queue _ _ _ loop_j _ _ loop_q loop_test_taken number_in if1_taken if2_taken put_queue)
 
 pub returns-else-q-queues : goal.returns-else-q-queues
-returns-else-q-queues c =    let inv = c.loop-j.invariant.2 in
+returns-else-q-queues c = let inv = c.loop-j.invariant.2 in
     let loop_j = c.loop-j.j in
     let loop_q = c.loop-j.q in
     let loop_test_taken = c.loop-j-test.true in
@@ -28,7 +28,7 @@ returns-else-q-queues c =    let inv = c.loop-j.invariant.2 in
     inv ∙ numbers_end _ _ _ loop_j _ _ loop_q loop_test_taken number_in if1_taken if2_left
 
 pub loop-j-preserved : goal.loop-j-preserved
-loop-j-preserved c =    let inv = c.loop-j.invariant.2 in
+loop-j-preserved c = let inv = c.loop-j.invariant.2 in
     let loop_j = c.loop-j.j in
     let loop_q = c.loop-j.q in
     let loop_test_taken = c.loop-j-test.true in

@@ -10,7 +10,7 @@ returns-then-n-eq0 c = simp (eq-eqb _ 0 c.if-n-eq0.true)
 
 pub returns-else-n-eq0 : goal.returns-else-n-eq0
 unfolding others_line
-returns-else-n-eq0 c =    let if1_left = c.if-n-eq0.false in
+returns-else-n-eq0 c = let if1_left = c.if-n-eq0.false in
     let put_decimal = c.put_decimal-count.ensures in
     let put = c.put.ensures in
     rw (ne_eqb _ 0 if1_left) (ink_then _ _ _ put_decimal put)

@@ -4,7 +4,7 @@ use Rattle.outcomes.proofs.put_outcome.Goals as goal
 
 pub returns : goal.returns
 unfolding outcome_line
-returns c =    let put_decimal = c.put_decimal-count.ensures in
+returns c = let put_decimal = c.put_decimal-count.ensures in
     let put = c.put-head.ensures in
     let put_numbers = c.put_numbers-last.ensures in
     let put2 = c.put.ensures in

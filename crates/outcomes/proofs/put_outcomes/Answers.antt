@@ -7,7 +7,7 @@ pub loop-i-init : goal.loop-i-init
 loop-i-init c = (search rules, refl, lines_start _ _ _ _)
 
 pub loop-i-preserved : goal.loop-i-preserved
-loop-i-preserved c =    let inv = c.loop-i.invariant.2 in
+loop-i-preserved c = let inv = c.loop-i.invariant.2 in
     let loop_i = c.loop-i.i in
     let loop_test_taken = c.loop-i-test.true in
     let put_outcome = c.put_outcome-next.ensures in

@@ -9,7 +9,7 @@ returns-then-x-eq0 c = rw (eq-eqb _ 0 c.if-x-eq0.true) c.put.ensures
 
 pub returns-else-x-eq0 : goal.returns-else-x-eq0
 unfolding value_text
-returns-else-x-eq0 c =    let if1_left = c.if-x-eq0.false in
+returns-else-x-eq0 c = let if1_left = c.if-x-eq0.false in
     let put2 = c.put-next.ensures in
     let long = c.long.ensures.0 in
     let put_decimal = c.put_decimal.ensures in

@@ -7,7 +7,7 @@ pub loop-i-init : goal.loop-i-init
 loop-i-init c = (search rules, refl, refl, replay_start _ _ _ _ _)
 
 pub loop-i-preserved : goal.loop-i-preserved
-loop-i-preserved c =    let inv = c.loop-i.invariant.3 in
+loop-i-preserved c = let inv = c.loop-i.invariant.3 in
     let loop_i = c.loop-i.i in
     let loop_test_taken = c.loop-i-test.true in
     let replay_steps = c.replay_steps-at.ensures in
@@ -17,7 +17,7 @@ loop-i-preserved c =    let inv = c.loop-i.invariant.3 in
     (search rules, search rules, search rules, inv ∙ replay_more _ _ _ _ _ loop_i _ _ _ _ loop_test_taken replay_steps begun)
 
 pub returns : goal.returns
-returns c =    let inv = c.loop-i.invariant.3 in
+returns c = let inv = c.loop-i.invariant.3 in
     let loop_i = c.loop-i.i in
     let loop_test_left = c.loop-i-test.false in
     let replay_steps2 = c.replay_steps.ensures in

@@ -10,17 +10,17 @@ pub loop-left-init : goal.loop-left-init
 loop-left-init c = (refl, refl, search rules, refl)
 
 pub overflow_sub-left : goal.overflow_sub-left
-overflow_sub-left c =    let run_sized = c.run_sized.ensures in
+overflow_sub-left c = let run_sized = c.run_sized.ensures in
     let k_is = c.in-Ended.is in
     omega (arith, sized_ended_within _ _ _ _ _ _ (rw k_is at run_sized))
 
 pub loop-left-smaller : goal.loop-left-smaller
-loop-left-smaller c =    let run_sized = c.run_sized.ensures in
+loop-left-smaller c = let run_sized = c.run_sized.ensures in
     let k_is = c.in-Ended.is in
     omega (arith, sized_ended_within _ _ _ _ _ _ (rw k_is at run_sized))
 
 pub loop-left-preserved : goal.loop-left-preserved
-loop-left-preserved c =    let inv = c.loop-left.invariant in
+loop-left-preserved c = let inv = c.loop-left.invariant in
     let loop_left = c.loop-left.left in
     let loop_test_taken = c.loop-left-test.true in
     let run_sized = c.run_sized.ensures in
@@ -32,7 +32,7 @@ loop-left-preserved c =    let inv = c.loop-left.invariant in
 
 pub returns-in-Spent : goal.returns-in-Spent
 unfolding ran_played
-returns-in-Spent c =    let inv = c.loop-left.invariant in
+returns-in-Spent c = let inv = c.loop-left.invariant in
     let loop_left = c.loop-left.left in
     let loop_test_taken = c.loop-left-test.true in
     let run_sized = c.run_sized.ensures in
@@ -42,7 +42,7 @@ returns-in-Spent c =    let inv = c.loop-left.invariant in
 
 pub returns-in-Idle : goal.returns-in-Idle
 unfolding ran_played
-returns-in-Idle c =    let inv = c.loop-left.invariant in
+returns-in-Idle c = let inv = c.loop-left.invariant in
     let loop_left = c.loop-left.left in
     let loop_test_taken = c.loop-left-test.true in
     let run_sized = c.run_sized.ensures in
@@ -52,7 +52,7 @@ returns-in-Idle c =    let inv = c.loop-left.invariant in
 
 pub returns-in-Damaged : goal.returns-in-Damaged
 unfolding ran_played
-returns-in-Damaged c =    let inv = c.loop-left.invariant in
+returns-in-Damaged c = let inv = c.loop-left.invariant in
     let loop_left = c.loop-left.left in
     let loop_test_taken = c.loop-left-test.true in
     let run_sized = c.run_sized.ensures in
@@ -62,7 +62,7 @@ returns-in-Damaged c =    let inv = c.loop-left.invariant in
 
 pub returns-in-Refused : goal.returns-in-Refused
 unfolding ran_played
-returns-in-Refused c =    let inv = c.loop-left.invariant in
+returns-in-Refused c = let inv = c.loop-left.invariant in
     let loop_left = c.loop-left.left in
     let loop_test_taken = c.loop-left-test.true in
     let run_sized = c.run_sized.ensures in

@@ -1,14 +1,10 @@
 use Rattle.outcomes.specs.OutcomesLaws.{steps_unfit}
 use Rattle.words.specs.Laws.{told}
-use Rattle.outcomes.proofs.replay_steps.Reads as reads
-use Rattle.outcomes.proofs.replay_steps.Lts as lts
-use Rattle.outcomes.proofs.replay_sized.Reads as replay-sized-reads
-use Rattle.words.proofs.measure.Reads as measure-reads
 use Rattle.outcomes.proofs.replay_steps.Goals as goal
 
 -- src/lib.rt:160:31
 pub replay_sized-requires : goal.replay_sized-requires
-replay_sized-requires c =    let measure_says = c.measure.ensures in
+replay_sized-requires c = let measure_says = c.measure.ensures in
     let s_known_1 = c.in-Sized.is in
     told measure_says s_known_1
 

@@ -8,7 +8,7 @@ pub slice_bounds-note_outcome-end-2 : goal.slice_bounds-note_outcome-end-2
 slice_bounds-note_outcome-end-2 c = sym (length-take-le _ _ c.table_words-n.ensures.upper_bound)
 
 pub returns : goal.returns
-returns c =    let table_words = c.table_words-n.ensures.value in
+returns c = let table_words = c.table_words-n.ensures.value in
     let note_outcome = c.note_outcome.ensures in
     let key_of = c.key_of.ensures in
     let count = c.count.ensures in

@@ -4,7 +4,7 @@ use Rattle.outcomes.proofs.word_of.Goals as goal
 
 pub returns : goal.returns
 unfolding word_of
-returns c =    let long = c.long.ensures in
+returns c = let long = c.long.ensures in
     let long2 = c.long-2.ensures in
     let long3 = c.long-3.ensures in
     let long4 = c.long-4.ensures in
