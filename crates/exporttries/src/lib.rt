@@ -1,4 +1,6 @@
 // The search for every schedule, for a caller in C: the benchmark.
+#![tactic(auto)]
+
 ghost use Rattle.std.specs.Prelude.{◌≡◌};
 ghost use Rattle.tries.specs.Tries.{tried_says, tries_of, number_says, number_of};
 ghost use Rattle.exporttries.specs.Reply.{packed, tried_reply, number_reply, tried_told, number_told, tried_out, number_out};

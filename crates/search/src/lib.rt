@@ -1,5 +1,7 @@
 // The search for every schedule of a few operations: what follows a step and what follows a begin, each explored in terms of the other,
 // with the moves that remain falling. Where there is a choice the table is saved by value.
+#![tactic(auto)]
+
 ghost use Rattle.std.specs.Prelude.{◌≡◌, true, ◌+◌, ◌≤◌, ◌<◌, length, take, leb};
 ghost use Rattle.ways.specs.Schedules.{op_in, ops_in, begun, by_step, by_begin};
 ghost use Rattle.ways.specs.Forced.{TableOf};
@@ -10,7 +12,7 @@ use ways::Tail;
 use words::Sizes;
 
 // What is done with each schedule: it is counted, its outcome is counted too, or its text is measured, or written.
-#[derive(Drop)]
+#[derive(Clone, Copy)]
 pub enum What {
     Count,
     Tally,
@@ -19,7 +21,7 @@ pub enum What {
 }
 
 // The sizes, how many operations there are, how many schedules are wanted, and what is done with each.
-#[derive(Drop)]
+#[derive(Clone, Copy)]
 pub struct Asked {
     pub levels: u16,
     pub queues: u16,
@@ -31,7 +33,7 @@ pub struct Asked {
 
 // The schedules listed, their bytes, and how the listing stops. Three words of one width: a copy of a struct that was just written in
 // narrower pieces has to wait for them.
-#[derive(Drop)]
+#[derive(Clone, Copy)]
 pub struct Listed {
     pub count: u64,
     pub at: usize,

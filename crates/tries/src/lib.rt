@@ -1,4 +1,6 @@
 // The schedules of a few operations, listed as text or counted.
+#![tactic(auto)]
+
 ghost use Rattle.std.specs.Prelude.{◌≡◌, true, ◌≤◌, length};
 ghost use Rattle.words.specs.Layout.{limits, words};
 ghost use Rattle.ways.specs.Schedules.{fresh, schedules};
@@ -12,7 +14,7 @@ use search::{Asked, FULL, GOING, Listed, WORDS, What};
 use words::Sizes;
 
 // Schedules listed and bytes written, and whether there are more; or the number of the refusal.
-#[derive(Drop)]
+#[derive(Clone, Copy)]
 pub enum Tried {
     All(u32, usize),
     More(u32, usize),
@@ -20,7 +22,7 @@ pub enum Tried {
 }
 
 // How many schedules there are, or the number of the refusal.
-#[derive(Drop)]
+#[derive(Clone, Copy)]
 pub enum Number {
     Is(u64),
     Refused(u16),

@@ -22,7 +22,7 @@ use text::Opening;
 use tries::{Number, Tried};
 
 // What is asked for: the schedules, so many at most; the outcomes; or nothing that is known.
-#[derive(Drop)]
+#[derive(Clone, Copy)]
 pub enum Asked {
     Schedules(u32),
     Outcomes,
@@ -30,14 +30,14 @@ pub enum Asked {
 }
 
 // A number of 32 bits, or bytes that are none.
-#[derive(Drop)]
+#[derive(Clone, Copy)]
 pub enum Bound {
     Is(u32),
     Wrong,
 }
 
 // The bytes of the answer; the same where there are more schedules than these; or that the room is too small for them.
-#[derive(Drop)]
+#[derive(Clone, Copy)]
 pub enum Answer {
     Whole(usize),
     First(usize),
