@@ -1,1 +1,2 @@
 // Chains of nodes, linked by their next words: theory only.
+#![tactic(auto)]

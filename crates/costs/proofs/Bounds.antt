@@ -7,7 +7,7 @@ use native.Mathlib.Omega.{arith}
 use lib.Dec.{eqb}
 use Rattle.words.specs.declared.Sizes.{Sizes}
 use Rattle.lists.specs.Count.{Same, same, apart, same?}
-use Rattle.lists.specs.Short.{once_short}
+use Rattle.lists.proofs.Short.{once_short}
 use Rattle.state.specs.Step.{State}
 use Rattle.table.specs.Points.{Point, number_of, E1, E2, E3, E4, E5, E6, E7, E8, E9, E10, E11, E12, E13, E14, E15, E16, E17, E18}
 use Rattle.words.specs.declared.Frame.{Frame}

@@ -60,12 +60,16 @@ ends_same {f} {g} {c} xs h k m (goes {d = d} r) = by (k c m) (λ n. ends_same xs
 abbrev pub Then : (ℕ → ℕ) → ℕ → ℕ → Type 0
 Then f t k = (t ≡ 0) ⊎ Ends f t k
 
+-- from a pointer s that is c's link
+from_at : {f : ℕ → ℕ} {c k s t : ℕ} {xs : List ℕ} → Seg f s xs t → s ≡ f c → Then f t k → Ends f c (suc (length xs + k))
+from_at (stop e) i (inl z) = ends (sym i ∙ e ∙ z)
+from_at {k = k} (stop e) i (inr r) = ends_at {d = suc k} (omega arith) (goes {d = k} (rw (sym e ∙ i) at r))
+from_at {f} {c} {k} (link {x = x} {xs = ys} e r) i h =
+    let w : Ends f x (suc (length ys + k)) = from_at r refl h in
+    ends_at {d = suc (suc (length ys + k))} (omega arith) (goes {d = suc (length ys + k)} (rw (sym e ∙ i) at w))
+
 pub from : {f : ℕ → ℕ} {c t k : ℕ} {xs : List ℕ} → Seg f (f c) xs t → Then f t k → Ends f c (suc (length xs + k))
-from (stop e) (inl z) = ends (e ∙ z)
-from {k = k} (stop e) (inr r) = ends_at {d = suc k} (omega arith) (goes {d = k} (rw (sym e) at r))
-from {f} {c} {t} {k} (link {x = x} {xs = ys} e r) h =
-    let w : Ends f x (suc (length ys + k)) = from r h in
-    ends_at {d = suc (suc (length ys + k))} (omega arith) (goes {d = suc (length ys + k)} (rw (sym e) at w))
+from g h = from_at g refl h
 
 pub along : {f : ℕ → ℕ} {s t k : ℕ} (c : ℕ) (xs : List ℕ) → Seg f s xs t → Then f t k → 0 < cnt c xs → Ends f c (length xs + k)
 along c [] g h m = absurd (omega (arith, cnt_nil c))
@@ -113,7 +117,7 @@ follows {next} st h = by (follow_in st)
     by (inr m) = inr (h (follow st) m)
 
 -- a walk in the lists ends, within as many loads as they have nodes
-pub walk_ends : {top q n : ℕ} {v : View} {fr : ℕ → Frame} {st : Stack} {b : Bool} (c : ℕ) → Pile top q v fr n st b
+pub walk_ends : {top q : ℕ} {v : View} {fr : ℕ → Frame} {n : ℕ} {st : Stack} {b : Bool} (c : ℕ) → Pile top q v fr n st b
     → 0 < cnt c (lists st) → Ends v.next c (length (lists st))
 walk_ends c bottom h = absurd (omega (arith, cnt_nil c))
 walk_ends c (upon a o e (is_loose z t) d) h = walk_ends c d h

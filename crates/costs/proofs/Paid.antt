@@ -10,7 +10,7 @@ use Rattle.words.specs.declared.Sizes.{Sizes}
 use Rattle.words.specs.declared.Frame.{Frame}
 use Rattle.words.specs.declared.Node.{Node}
 use Rattle.words.specs.declared.Word.TheVariants.{Use}
-use Rattle.words.specs.Layout.{level, node}
+use Rattle.words.specs.Layout.{node}
 use Rattle.lists.specs.Count.{cnt}
 use Rattle.state.specs.Mem.{put, upd}
 use Rattle.state.specs.Step.{State, then, frame_after, row_of, stepped}

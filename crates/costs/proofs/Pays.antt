@@ -25,7 +25,7 @@ use Rattle.table.specs.declared.After.TheVariants.{Go, Done}
 use Rattle.chains.proofs.Links.{Walk, on, out, walk, seg_put, seg_head, seg_rest, seg_nil}
 use Rattle.chains.proofs.Members.{either, last_in}
 use Rattle.invariant.specs.Ghost.{Item, loose, owner, lists, origin}
-use Rattle.invariant.specs.Facts.{Hot, is_loose, is_owner, e8, e9, e14, e15, e18, e22, d2, d3, d5, d6, d7}
+use Rattle.invariant.specs.Facts.{Hot, is_loose, is_owner, e8, e9, e14, e15, e18, e22, d2, d3, d5, d6, d7, is_mark}
 use Rattle.invariant.proofs.Keep.{aim_first}
 use Rattle.invariant.proofs.Below.{hot_start, start_own, tail_in, shows, nobody}
 use Rattle.invariant.proofs.Turn.{Turn, At, Below, Lists, HotBelow}
@@ -169,6 +169,8 @@ module _ (T : Turn) (v w s₀ : ℕ) (w= : w ≡ v + 6) (few : (xs : List ℕ) �
   e8_pays at S x _ b _ (is_owner z n t (e8 k e)) d s (g, u) =
       let r = nobody d k in
       by_eq (λ j. to E9 refl (g, omega arith)) (λ j. absurd (j (rw (e ∙ sym r.begins) (alone_ends r.own r.ends t))))
+  e8_pays at S x _ b _ (is_loose _ h) d s _ = elim h [ ]
+  e8_pays at S x _ _ _ (is_mark _ _ h) d s _ = elim h [ ]
 
   e9_pays : Case E9
   unfolding row
@@ -176,6 +178,8 @@ module _ (T : Turn) (v w s₀ : ℕ) (w= : w ≡ v + 6) (few : (xs : List ℕ) �
       let r = nobody d k in
       let j = own_walk f.c.0 f.node.0 s (rw (e ∙ sym r.begins) (hot_start t)) in
       to E10 refl (record { gone = g; left = j.0; walk = j.1; upto = omega (arith, j.2) })
+  e9_pays at S x _ b _ (is_loose _ h) d s _ = elim h [ ]
+  e9_pays at S x _ _ _ (is_mark _ _ h) d s _ = elim h [ ]
 
   e10_pays : Case E10
   unfolding row
@@ -216,6 +220,8 @@ module _ (T : Turn) (v w s₀ : ℕ) (w= : w ≡ v + 6) (few : (xs : List ℕ) �
     where
       live : 0 < cnt (M.ln f.m.0) (y ++ lists st)
       live = shows f.m.0 y (omega (arith, T.below)) d (hot_start t) r (T.listed f.m.0 m r)
+  e14_pays at S x _ b _ (is_loose _ h) d s _ = elim h [ ]
+  e14_pays at S x _ _ _ (is_mark _ _ h) d s _ = elim h [ ]
 
   e15_pays : Case E15
   unfolding row
@@ -237,6 +243,8 @@ module _ (T : Turn) (v w s₀ : ℕ) (w= : w ≡ v + 6) (few : (xs : List ℕ) �
           let k : 0 < cnt (M.tail f.queue.0) y = rw (tail= ∙ sym (start_own (omega (arith, T.below)) d h)) (hot_start t) in
           simp counts (omega arith)
       live false (apart h) = rw tail= (simp counts (omega (arith, tail_in (omega (arith, T.below)) d h)))
+  e15_pays at S x _ b _ (is_loose _ h) d s _ = elim h [ ]
+  e15_pays at S x _ _ _ (is_mark _ _ h) d s _ = elim h [ ]
 
   e16_pays : Case E16
   unfolding row
@@ -272,6 +280,8 @@ module _ (T : Turn) (v w s₀ : ℕ) (w= : w ≡ v + 6) (few : (xs : List ℕ) �
   e18_pays at S x _ b _ (is_owner z n t (e18 e a r)) d s (g, u) =
       let j = own_walk f.p.0 f.node.0 s (aim_first t a) in
       to E19 refl (record { gone = g; left = j.0; walk = j.1; upto = omega (arith, j.2) })
+  e18_pays at S x _ b _ (is_loose _ h) d s _ = elim h [ ]
+  e18_pays at S x _ _ _ (is_mark _ _ h) d s _ = elim h [ ]
 
   e19_pays : Case E19
   unfolding row
@@ -290,6 +300,8 @@ module _ (T : Turn) (v w s₀ : ℕ) (w= : w ≡ v + 6) (few : (xs : List ℕ) �
   e22_pays at S x _ b _ (is_owner {x = y} z n t (e22 e i j k r)) d s (g, u) =
       let j = own_walk f.a.0 f.node.0 s (last_in f.a.0 y k) in
       to E23 refl (record { gone = g; left = j.0; walk = j.1; upto = omega (arith, j.2) })
+  e22_pays at S x _ b _ (is_loose _ h) d s _ = elim h [ ]
+  e22_pays at S x _ _ _ (is_mark _ _ h) d s _ = elim h [ ]
 
   e23_pays : Case E23
   unfolding row
@@ -347,11 +359,15 @@ module _ (T : Turn) (v w s₀ : ℕ) (w= : w ≡ v + 6) (few : (xs : List ℕ) �
   unfolding row
   d2_pays at S x _ b _ (is_loose z (d2 o e)) d s u =
       by_eq (λ j. has_ended (round_ends 1 o (omega arith) u)) (λ j. to D3 refl (round_on f.c.0 1 u))
+  d2_pays at S x _ b _ (is_owner _ _ _ h) d s u = elim h [ ]
+  d2_pays at S x _ _ _ (is_mark _ _ h) d s u = elim h [ ]
 
   d3_pays : Case D3
   unfolding row
   d3_pays at S x _ b _ (is_loose z (d3 o e)) d s u =
       by_eq (λ j. has_ended (round_ends 2 o (omega arith) u)) (λ j. to D4 refl (round_on f.c.0 2 u))
+  d3_pays at S x _ b _ (is_owner _ _ _ h) d s u = elim h [ ]
+  d3_pays at S x _ _ _ (is_mark _ _ h) d s u = elim h [ ]
 
   d4_pays : Case D4
   unfolding row
@@ -401,15 +417,21 @@ module _ (T : Turn) (v w s₀ : ℕ) (w= : w ≡ v + 6) (few : (xs : List ℕ) �
       seven : Round f.c.0 s₀ 4 → f.steps ≤ l * w + v + 20
       seven (first k) = omega arith
       seven (second g k) = omega arith
+  d5_pays at S x _ b _ (is_owner _ _ _ h) d s u = elim h [ ]
+  d5_pays at S x _ _ _ (is_mark _ _ h) d s u = elim h [ ]
 
   d6_pays : Case D6
   unfolding row
   d6_pays at S x _ b _ (is_loose z (d6 o e)) d s (g, u) = to E1 refl ((λ k. g), omega (arith, base_two f.op o))
+  d6_pays at S x _ b _ (is_owner _ _ _ h) d s _ = elim h [ ]
+  d6_pays at S x _ _ _ (is_mark _ _ h) d s _ = elim h [ ]
 
   d7_pays : Case D7
   unfolding row
   d7_pays at S x _ b _ (is_loose z (d7 o e)) d s u =
       has_ended (record { enqueue = λ k. absurd (omega arith); dequeue = omega arith })
+  d7_pays at S x _ b _ (is_owner _ _ _ h) d s u = elim h [ ]
+  d7_pays at S x _ _ _ (is_mark _ _ h) d s u = elim h [ ]
 
   -- ---- all points
 

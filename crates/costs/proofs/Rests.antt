@@ -16,7 +16,7 @@ use Rattle.table.specs.Table.{row}
 use Rattle.chains.proofs.Members.{last_in}
 use Rattle.invariant.specs.Ghost.{Item, loose, owner, mark, Stack, push, lists, Listed}
 use Rattle.invariant.specs.Facts.{Regs, regs, View, Here, is_loose, is_owner, is_mark, Pile, upon}
-use Rattle.invariant.specs.Facts.{e9, e10, e16, e18, e19, e20, e22, e23, e24, d1, d2, d3, d4, d5, d6, d7}
+use Rattle.invariant.specs.Facts.{e9, e10, e16, e18, e19, e20, e22, e23, e24, d1, d2, d3, d4, d5, d6, d7, bottom}
 use Rattle.invariant.proofs.Keep.{upon', aim_first}
 use Rattle.invariant.proofs.Below.{Leads, leads, inner, inner_lists, hot_start, nobody}
 use Rattle.invariant.proofs.Turn.{Turn, At, Below, Lists}
@@ -42,7 +42,7 @@ lists_up l (loose ins outs) st y = omega arith
 lists_up l (owner n x) st y = simp counts (omega arith)
 lists_up l (mark p w) st y = simp counts (omega arith)
 
-pub found : {top q n : ℕ} {v : View} {fr : ℕ → Frame} {st : Stack} {b : Bool} (j : ℕ) → Pile top q v fr n st b → Listed j st
+pub found : {top q : ℕ} {v : View} {fr : ℕ → Frame} {n : ℕ} {st : Stack} {b : Bool} (j : ℕ) → Pile top q v fr n st b → Listed j st
     → Found top q j v fr (lists st)
 found j (upon {l = l} {p = p} {i = i} {st = st} {b = b} {b' = b'} a o e t d) (inl h) = rw h (record {
   point = p;
@@ -66,6 +66,7 @@ found j (upon {l = l} {i = i} {st = st} a o e t d) (inr h) = let r = found j d h
   pile = r.pile;
   inside = λ y. omega (arith, r.inside y, lists_up l i st y);
 }
+found j bottom h = elim h [ ]
 
 -- the links of the lists lead into them
 pub closed : {top q n : ℕ} {v : View} {fr : ℕ → Frame} {st : Stack} {b : Bool} → Pile top q v fr n st b → (y : ℕ)
@@ -157,6 +158,26 @@ module _ (top q v w j s : ℕ) (X : View) (g : Regs) (next' : ℕ → ℕ) (head
   rests D6 (is_loose z (d6 o e)) sub (g, u) = (rw (head= o) g, u)
   rests D7 h sub u = u
   rests Unknown h sub u = u
+  rests E10 (is_loose z h) sub u = elim h [ ]
+  rests E10 (is_owner z n t h) sub u = elim h [ ]
+  rests E16 (is_loose z h) sub u = elim h [ ]
+  rests E16 (is_mark z n h) sub u = elim h [ ]
+  rests E19 (is_loose z h) sub u = elim h [ ]
+  rests E19 (is_owner z n t h) sub u = elim h [ ]
+  rests E23 (is_loose z h) sub u = elim h [ ]
+  rests E23 (is_owner z n t h) sub u = elim h [ ]
+  rests D1 (is_owner z n t h) sub u = elim h [ ]
+  rests D1 (is_mark z n h) sub u = elim h [ ]
+  rests D2 (is_owner z n t h) sub u = elim h [ ]
+  rests D2 (is_mark z n h) sub u = elim h [ ]
+  rests D3 (is_owner z n t h) sub u = elim h [ ]
+  rests D3 (is_mark z n h) sub u = elim h [ ]
+  rests D4 (is_owner z n t h) sub u = elim h [ ]
+  rests D4 (is_mark z n h) sub u = elim h [ ]
+  rests D5 (is_owner z n t h) sub u = elim h [ ]
+  rests D5 (is_mark z n h) sub u = elim h [ ]
+  rests D6 (is_owner z n t h) sub u = elim h [ ]
+  rests D6 (is_mark z n h) sub u = elim h [ ]
 
 -- ---- what a step leaves alone: the links of the lists below it, and head where it is no dequeue's
 
@@ -221,6 +242,20 @@ module _ (T : Turn) where
   links_stay D7 (is_loose z (d7 o e)) d s y h =
       other f.c.0 0 y (omega (arith, simp counts at (s.all f.c.0), T.once f.c.0)) h
   links_stay Unknown h d s y m = refl
+  links_stay E9 (is_loose z w) d s y h = elim w [ ]
+  links_stay E9 (is_mark z n w) d s y h = elim w [ ]
+  links_stay E18 (is_loose z w) d s y h = elim w [ ]
+  links_stay E18 (is_mark z n w) d s y h = elim w [ ]
+  links_stay E20 (is_loose z w) d s y h = elim w [ ]
+  links_stay E20 (is_owner z n t w) d s y h = elim w [ ]
+  links_stay E22 (is_loose z w) d s y h = elim w [ ]
+  links_stay E22 (is_mark z n w) d s y h = elim w [ ]
+  links_stay E24 (is_loose z w) d s y h = elim w [ ]
+  links_stay E24 (is_owner z n t w) d s y h = elim w [ ]
+  links_stay D6 (is_owner z n t w) d s y h = elim w [ ]
+  links_stay D6 (is_mark z n w) d s y h = elim w [ ]
+  links_stay D7 (is_owner z n t w) d s y h = elim w [ ]
+  links_stay D7 (is_mark z n w) d s y h = elim w [ ]
 
   pub head_stays : (p : Point) {S : List ℕ} {i : Item} {b b' : Bool} → At T M S f p i b b' → f.op ≢ 2
       → (mem_after M (row p f (level l) (level top))).head q ≡ M.head q
@@ -262,3 +297,5 @@ module _ (T : Turn) where
   head_stays D6 h n = refl
   head_stays D7 h n = refl
   head_stays Unknown h n = refl
+  head_stays D5 (is_owner _ _ _ h) n = elim h [ ]
+  head_stays D5 (is_mark _ _ h) n = elim h [ ]

@@ -29,7 +29,7 @@ use Rattle.state.specs.Step.{mem_after, then, frame_after, row_of}
 use Rattle.state.specs.View.{memory, frames, state_of}
 use Rattle.state.specs.Queues.{On, own}
 use Rattle.invariant.specs.Ghost.{Item, Stack, Listed}
-use Rattle.invariant.specs.Facts.{Regs, View, Here, is_loose, d2, Pile, upon}
+use Rattle.invariant.specs.Facts.{Regs, View, Here, is_loose, d2, Pile, upon, is_mark, is_owner, bottom}
 use Rattle.invariant.specs.Sound.{Sound}
 use Rattle.demand.proofs.World.{World}
 use Rattle.demand.proofs.Rows.{next_frame, next_on, goes_on, ends_empty}
@@ -47,12 +47,15 @@ use Rattle.demand.specs.Demand.{first_of}
 -- the invariant at D2: c is head
 here_d2 : {top q l : ℕ} {v : View} {g : Regs} {i : Item} {st : Stack} {b b' : Bool} → Here top q v l g D2 i st b b' → g.c ≡ v.head
 here_d2 (is_loose z (d2 o e)) = e
+here_d2 (is_owner _ _ _ h) = elim h [ ]
+here_d2 (is_mark _ _ h) = elim h [ ]
 
-pub pile_d2 : {top q n : ℕ} {v : View} {fr : ℕ → Frame} {st : Stack} {b : Bool} (l : ℕ) → Pile top q v fr n st b → Listed l st
+pub pile_d2 : {top q : ℕ} {v : View} {fr : ℕ → Frame} {n : ℕ} {st : Stack} {b : Bool} (l : ℕ) → Pile top q v fr n st b → Listed l st
     → point_of (fr l).point ≡ D2 → (fr l).c.0 ≡ v.head
 pile_d2 {fr = fr} l (upon {l = j} a o e h d) (inl z) p =
     let at_d2 : point_of (fr j).point ≡ D2 = rw z at p in rw z (here_d2 (rw (sym e ∙ at_d2) at h))
 pile_d2 l (upon a o e h d) (inr z) p = pile_d2 l d z p
+pile_d2 l bottom h p = elim h [ ]
 
 -- a queue whose tail is head has no first node
 pub first_none : {M : Mem} {q x : ℕ} → First M q x → M.tail q ≡ M.head q → x ≡ 0

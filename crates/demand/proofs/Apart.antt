@@ -10,7 +10,7 @@ use Rattle.words.specs.declared.Sizes.{Sizes}
 use Rattle.words.specs.declared.Frame.{Frame}
 use Rattle.words.specs.declared.Word.{Word}
 use Rattle.words.specs.declared.Word.TheVariants.{LevelNode, LevelQueue, Head, Tail, Next, Use}
-use Rattle.words.specs.Layout.{level, node}
+use Rattle.words.specs.Layout.{node}
 use Rattle.table.specs.Table.{Row}
 use Rattle.lists.specs.Count.{Same, same, apart, same?, hit}
 use Rattle.state.specs.Mem.{Mem, put, put_same, put_other, upd}

@@ -14,7 +14,7 @@ use Rattle.words.specs.declared.Sizes.{Sizes}
 use Rattle.words.specs.declared.Frame.{Frame}
 use Rattle.words.specs.declared.Measured.TheVariants.{Sized}
 use Rattle.words.specs.declared.Word.TheVariants.{Head, Use}
-use Rattle.words.specs.Layout.{level, queue, node, within, measured, has, rd, wr, frame_of, put_frame}
+use Rattle.words.specs.Layout.{level, node, within, measured, has, rd, wr, frame_of, put_frame}
 use Rattle.words.specs.Laws.{Bound, bound, within_low, within_high, measured_wr, measured_put, measured_fits, has_is}
 use Rattle.answers.specs.Said.{Said, refused, says}
 use Rattle.table.specs.Points.{E1, D1}

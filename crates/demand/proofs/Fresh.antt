@@ -1,5 +1,5 @@
 -- A fresh table is sound in every queue: each chain is its sentinel alone, and no node is a queue's but those.
-use Prim.Native.Nat.{ℕ, zero, ◌≤◌}
+use Prim.Native.Nat.{ℕ, ◌≤◌}
 use mathlib.Core.Path.{◌≡◌, refl, sym, ap, ◌∙◌}
 use mathlib.Core.Bool.{Bool, true, false, cond, not}
 use mathlib.Core.List.{List, [], ◌∷◌}

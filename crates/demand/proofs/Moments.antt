@@ -22,8 +22,9 @@ use Rattle.conditions.specs.Conditions.{sought, no_queue, unquiet}
 use Rattle.asks.specs.Quiet.{quiet_measured, quiet_of}
 use Rattle.asks.specs.Listing.{nodes_from, nodes_of, listed, listing_sized, listing_measured, listing_of}
 use Rattle.lists.specs.Count.{Same, same, apart, same?, cnt, cnt_nil, cnt_self}
-use Rattle.lists.specs.Beginning.{without, cnt_without}
-use Rattle.lists.specs.Short.{once_short}
+use Rattle.lists.specs.Beginning.{without}
+use Rattle.lists.proofs.Without.{cnt_without}
+use Rattle.lists.proofs.Short.{once_short}
 use Rattle.chains.specs.Seg.{Seg, stop, link}
 use Rattle.state.specs.View.{memory, frames, state_of}
 use Rattle.state.proofs.Seen.{look_rd, frame_is, frame_idle}

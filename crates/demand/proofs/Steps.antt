@@ -15,7 +15,7 @@ use Rattle.words.specs.declared.Frame.{Frame}
 use Rattle.words.specs.declared.Measured.TheVariants.{Sized}
 use Rattle.words.specs.declared.Word.{Word}
 use Rattle.words.specs.declared.Word.TheVariants.{LevelNode, LevelQueue, Head, Tail, Next, Use}
-use Rattle.words.specs.Layout.{level, words, within, measured, frame_of}
+use Rattle.words.specs.Layout.{level, words, measured, frame_of}
 use Rattle.words.specs.Laws.{within_is, measured_fits}
 use Rattle.answers.specs.declared.End.{End}
 use Rattle.table.specs.declared.After.{After}

@@ -26,8 +26,9 @@ use Rattle.table.specs.Table.{Row}
 use Rattle.begins.specs.Begin.{begun}
 use Rattle.steps.specs.Step.{end_of, step_sized}
 use Rattle.lists.specs.Count.{Same, same, apart, same?, cnt, cnt_cons, cnt_nil, cnt_self, counts}
-use Rattle.lists.specs.Beginning.{without, cnt_without}
-use Rattle.lists.specs.Short.{length_without}
+use Rattle.lists.specs.Beginning.{without}
+use Rattle.lists.proofs.Without.{cnt_without}
+use Rattle.lists.proofs.Short.{length_without}
 use Rattle.state.specs.Mem.{Mem, put, put_same, put_other}
 use Rattle.state.specs.Step.{State, mem_after, then, frame_after, row_of, stepped}
 use Rattle.state.specs.View.{memory, frames}

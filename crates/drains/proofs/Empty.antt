@@ -8,7 +8,8 @@ use lib.Dec.{eqb}
 use borrow.Author.Tests.{ne_eqb}
 use Rattle.words.specs.declared.Sizes.{Sizes}
 use Rattle.lists.specs.Count.{cnt, cnt_nil, cnt_self}
-use Rattle.lists.specs.Beginning.{without, cnt_without}
+use Rattle.lists.specs.Beginning.{without}
+use Rattle.lists.proofs.Without.{cnt_without}
 use Rattle.state.specs.Step.{State}
 use Rattle.state.specs.Queues.{On}
 use Rattle.invariant.specs.Sound.{own_in, Sound, Chained}

@@ -180,14 +180,14 @@ module _ (top : ℕ) where
   lift_here g low r (is_owner a b c h) = is_owner a b (lift_hot r c) (lift_unlinked low r g h)
   lift_here g low r (is_mark a b h) = is_mark a b (lift_linked r g h)
 
-  pub origins : {q n : ℕ} {v : View} {fr : ℕ → Frame} {st : Stack} {b : Bool} → n ≤ top → Pile top q v fr n st b
+  pub origins : {q : ℕ} {v : View} {fr : ℕ → Frame} {n : ℕ} {st : Stack} {b : Bool} → n ≤ top → Pile top q v fr n st b
       → Origins top (origin top st) (origin (suc top) st)
   origins h bottom = own_chain refl refl
   origins h (upon {i = loose a b} m w e t d) = origins (omega arith) d
   origins h (upon {i = owner a b} m w e t d) = owned (omega arith) refl
   origins h (upon {i = mark a b} m w e t d) = origins (omega arith) d
 
-  lift_pile : {q n : ℕ} {v : View} {fr : ℕ → Frame} {st : Stack} {b : Bool} → n ≤ top → Pile top q v fr n st b
+  lift_pile : {q : ℕ} {v : View} {fr : ℕ → Frame} {n : ℕ} {st : Stack} {b : Bool} → n ≤ top → Pile top q v fr n st b
       → Pile (suc top) q v (λ j. lift top (fr j)) n st b
   lift_pile h bottom = bottom
   lift_pile {fr = fr} h (upon {l = l} m w e t d) =

@@ -92,12 +92,18 @@ module _ (top q v w l : ℕ) (next : ℕ → ℕ) (head op k m c s : ℕ) where
 
 m13 : {top q l : ℕ} {v : View} {g : Regs} {i : Item} {st : Stack} {b b' : Bool} → Here top q v l g E13 i st b b' → g.m < l
 m13 (is_owner a b c (facts.e13 x y z)) = z
+m13 (facts.is_loose _ h) = elim h [ ]
+m13 (facts.is_mark _ _ h) = elim h [ ]
 
 m14 : {top q l : ℕ} {v : View} {g : Regs} {i : Item} {st : Stack} {b b' : Bool} → Here top q v l g E14 i st b b' → g.m < l
 m14 (is_owner a b c (facts.e14 x y z w)) = z
+m14 (facts.is_loose _ h) = elim h [ ]
+m14 (facts.is_mark _ _ h) = elim h [ ]
 
 m16 : {top q l : ℕ} {v : View} {g : Regs} {i : Item} {st : Stack} {b b' : Bool} → Here top q v l g E16 i st b b' → g.m ≢ top → g.m < l
 m16 (is_owner a b c (facts.e16 x y z w)) = z
+m16 (facts.is_loose _ h) = elim h [ ]
+m16 (facts.is_mark _ _ h) = elim h [ ]
 
 pub paid_lifted : (s : Sizes) (q v : ℕ) (W : State) (front : List ℕ) → Sound s q W front → Paid s q v W
     → Paid (taller s) q v (lifted s.levels W)

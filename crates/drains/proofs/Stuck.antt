@@ -16,7 +16,7 @@ use Rattle.words.specs.Layout.{level, queue}
 use Rattle.words.specs.Laws.{measured_fits}
 use Rattle.answers.specs.Said.{says}
 use Rattle.lists.specs.Count.{cnt, eqb_self}
-use Rattle.lists.specs.Short.{once_short}
+use Rattle.lists.proofs.Short.{once_short}
 use Rattle.state.specs.Step.{State}
 use Rattle.state.specs.View.{memory, frames, state_of}
 use Rattle.state.proofs.Seen.{frame_idle}

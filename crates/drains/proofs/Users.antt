@@ -13,8 +13,9 @@ use Rattle.words.specs.declared.Word.TheVariants.{Use}
 use Rattle.words.specs.Layout.{node, rd}
 use Rattle.words.specs.Laws.{Bound, has_is}
 use Rattle.lists.specs.Count.{Same, same, apart, same?, cnt, cnt_nil, cnt_cons, cnt_self}
-use Rattle.lists.specs.Beginning.{without, cnt_without}
-use Rattle.lists.specs.Short.{length_without}
+use Rattle.lists.specs.Beginning.{without}
+use Rattle.lists.proofs.Without.{cnt_without}
+use Rattle.lists.proofs.Short.{length_without}
 use Rattle.state.specs.View.{memory, state_of}
 use Rattle.state.proofs.Seen.{look_rd}
 use Rattle.invariant.specs.Sound.{own_in}

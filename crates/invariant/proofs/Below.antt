@@ -22,22 +22,24 @@ use Rattle.invariant.proofs.Keep.{upon', keep_all, the_same}
 
 -- ---- levels
 
-pub listed_below : {top q n j : ℕ} {v : View} {fr : ℕ → Frame} {st : Stack} {b : Bool} → Pile top q v fr n st b → Listed j st
+pub listed_below : {top q : ℕ} {v : View} {fr : ℕ → Frame} {n j : ℕ} {st : Stack} {b : Bool} → Pile top q v fr n st b → Listed j st
     → j < n
 listed_below (upon a o e t d) (inl h) = omega arith
 listed_below (upon a o e t d) (inr h) = omega (arith, listed_below d h)
+listed_below bottom h = elim h [ ]
 
-pub listed_on : {top q n : ℕ} {v : View} {fr : ℕ → Frame} {st : Stack} {b : Bool} (j : ℕ) → Pile top q v fr n st b
+pub listed_on : {top q : ℕ} {v : View} {fr : ℕ → Frame} {n : ℕ} {st : Stack} {b : Bool} (j : ℕ) → Pile top q v fr n st b
     → Listed j st → Works q (fr j)
 listed_on j (upon a o e t d) (inl h) = rw h o
 listed_on j (upon a o e t d) (inr h) = listed_on j d h
+listed_on j bottom h = elim h [ ]
 
 -- a level other than the highest is listed below it
 pub listed_lower : {j l : ℕ} (st : Stack) → j ≢ l → (j ≡ l) ⊎ Listed j st → Listed j st
 listed_lower st h (inl e) = absurd (h e)
 listed_lower st h (inr e) = e
 
-pub origin_below : {top q n : ℕ} {v : View} {fr : ℕ → Frame} {st : Stack} {b : Bool} → Pile top q v fr n st b
+pub origin_below : {top q : ℕ} {v : View} {fr : ℕ → Frame} {n : ℕ} {st : Stack} {b : Bool} → Pile top q v fr n st b
     → origin top st ≢ top → origin top st < n
 origin_below bottom h = absurd (h refl)
 origin_below (upon a o e (is_loose z t) d) h = omega (arith, origin_below d h)
@@ -46,7 +48,7 @@ origin_below (upon a o e (is_owner z i t u) d) h = a
 origin_below (upon a o e (is_mark z i t) d) h = omega (arith, origin_below d h)
 
 -- the owner of a chain is registered
-pub origin_registered : {top q n : ℕ} {v : View} {fr : ℕ → Frame} {st : Stack} {b : Bool} → Pile top q v fr n st b
+pub origin_registered : {top q : ℕ} {v : View} {fr : ℕ → Frame} {n : ℕ} {st : Stack} {b : Bool} → Pile top q v fr n st b
     → origin top st ≢ top → v.lq (origin top st) ≡ q
 origin_registered bottom h = absurd (h refl)
 origin_registered (upon a o e (is_loose z t) d) h = origin_registered d h
@@ -56,7 +58,7 @@ origin_registered (upon a o e (is_mark z i t) d) h = origin_registered d h
 
 -- ---- tail
 
-pub start_own : {top q n : ℕ} {v : View} {fr : ℕ → Frame} {st : Stack} {b : Bool} → n ≤ top → Pile top q v fr n st b
+pub start_own : {top q : ℕ} {v : View} {fr : ℕ → Frame} {n : ℕ} {st : Stack} {b : Bool} → n ≤ top → Pile top q v fr n st b
     → origin top st ≡ top → start v.tail st ≡ v.tail
 start_own k bottom h = refl
 start_own k (upon a o e (is_loose z t) d) h = start_own (omega arith) d h
@@ -64,7 +66,7 @@ start_own k (upon a o e (is_done z i t) d) h = start_own (omega arith) d h
 start_own k (upon a o e (is_owner z i t u) d) h = absurd (omega arith)
 start_own k (upon a o e (is_mark z i t) d) h = start_own (omega arith) d h
 
-pub start_owned : {top q n : ℕ} {v : View} {fr : ℕ → Frame} {st : Stack} {b : Bool} → Pile top q v fr n st b
+pub start_owned : {top q : ℕ} {v : View} {fr : ℕ → Frame} {n : ℕ} {st : Stack} {b : Bool} → Pile top q v fr n st b
     → origin top st ≢ top → v.ln (origin top st) ≡ start v.tail st
 start_owned bottom h = absurd (h refl)
 start_owned (upon a o e (is_loose z t) d) h = start_owned d h
@@ -77,7 +79,7 @@ pub hot_start : {top o s t : ℕ} {next : ℕ → ℕ} {x : List ℕ} → Hot to
 hot_start {s = s} h = rw h.begins (cnt_self s h.more)
 
 -- where some level is not linked in, tail is in a list below
-pub tail_in : {top q n : ℕ} {v : View} {fr : ℕ → Frame} {st : Stack} {b : Bool} → n ≤ top → Pile top q v fr n st b
+pub tail_in : {top q : ℕ} {v : View} {fr : ℕ → Frame} {n : ℕ} {st : Stack} {b : Bool} → n ≤ top → Pile top q v fr n st b
     → origin top st ≢ top → 0 < cnt v.tail (lists st)
 tail_in k bottom h = absurd (h refl)
 tail_in k (upon a o e (is_loose z t) d) h = tail_in (omega arith) d h
@@ -101,7 +103,7 @@ pub record Nobody (top tail : ℕ) (st : Stack) (b : Bool) : Type 0 where
   pub begins : start tail st ≡ tail
   pub unsettled : b ≡ false
 
-pub nobody : {top q n : ℕ} {v : View} {fr : ℕ → Frame} {st : Stack} {b : Bool} → Pile top q v fr n st b
+pub nobody : {top q : ℕ} {v : View} {fr : ℕ → Frame} {n : ℕ} {st : Stack} {b : Bool} → Pile top q v fr n st b
     → ((j : ℕ) → j < n → v.lq j ≢ q) → Nobody top v.tail st b
 nobody bottom h = record { own = refl; ends = refl; begins = refl; unsettled = refl }
 nobody (upon a o e (is_loose z t) d) h = let r = nobody d (λ j k. h j (omega arith)) in
@@ -143,7 +145,7 @@ mark_apart {top} {v = v} {st = st} p x w c d s once e = by (eqb (origin top st) 
     by true (same r) = let h : 0 < cnt v.tail x = rw (start_own c d r) at s in omega (arith, twice)
     by false (apart r) = omega (arith, tail_in c d r, twice)
 
-pub shown : {top q n k : ℕ} {v : View} {fr : ℕ → Frame} {st : Stack} {b : Bool} (x : List ℕ) → n ≤ top
+pub shown : {top q : ℕ} {v : View} {fr : ℕ → Frame} {n k : ℕ} {st : Stack} {b : Bool} (x : List ℕ) → n ≤ top
     → Pile top q v fr n st b → Highest v.lq q k n → Listed k st
     → 0 < cnt (start v.tail st) x → ((y : ℕ) → cnt y x + cnt y (lists st) ≤ 1) → cnt 0 (lists st) ≡ 0
     → Shown top v.tail (origin top st) (start v.tail st) (follow st) k (v.ln k) b
@@ -157,6 +159,7 @@ shown {v = v} x c (upon {l = l} {st = st} a o e (is_mark {s = p} {w = m} z i t) 
     rw (highest_top a z h d s)
     (at_mark i (rw i (differ (p ∷ (m ++ lists st)) (cnt_self p (m ++ lists st)) none)) (λ r. origin_below d r)
     (rw i (mark_apart p x m (omega arith) d w once)))
+shown x c bottom h s w once none = elim s [ ]
 
 -- ---- links
 
@@ -236,7 +239,7 @@ leads_piece {p = p} {w = w} c ys (e27 a b s k) f h = leads_along p w c ys s f h
 leads_piece {p = p} {w = w} c ys (e28 a s) f h = leads_along p w c ys s f h
 
 -- from a node of the lists the link ends, or leads to a node of the lists that is not the first of the top mark
-pub leads : {top q n : ℕ} {v : View} {fr : ℕ → Frame} {st : Stack} {b : Bool} (c : ℕ) → Pile top q v fr n st b
+pub leads : {top q : ℕ} {v : View} {fr : ℕ → Frame} {n : ℕ} {st : Stack} {b : Bool} (c : ℕ) → Pile top q v fr n st b
     → 0 < cnt c (lists st) → Leads (v.next c) (inner st)
 leads c bottom h = absurd (omega (arith, cnt_nil c))
 leads c (upon a o e (is_loose z t) d) h = leads c d h
@@ -259,7 +262,7 @@ leads {v = v} c (upon a o e (is_mark {s = p} {w = w} {st = st} z i t) d) h =
 
 -- ---- what a registered level shows is in a list, or in the hot list x
 
-pub shows : {top q n : ℕ} {v : View} {fr : ℕ → Frame} {st : Stack} {b : Bool} (m : ℕ) (x : List ℕ) → n ≤ top
+pub shows : {top q : ℕ} {v : View} {fr : ℕ → Frame} {n : ℕ} {st : Stack} {b : Bool} (m : ℕ) (x : List ℕ) → n ≤ top
     → Pile top q v fr n st b → 0 < cnt (start v.tail st) x
     → v.lq m ≡ q → Listed m st → 0 < cnt (v.ln m) (x ++ lists st)
 shows m x c (upon {st = st} a o e (is_loose z t) d) s r k =
@@ -273,6 +276,7 @@ shows {v = v} m x c (upon a o e (is_owner {x = y} {st = st} z i t u) d) s r (inr
 shows m x c (upon a o e (is_mark {s = p} z i t) d) s r (inl j) = rw (j, i) (simp counts (omega arith))
 shows m x c (upon a o e (is_mark z i t) d) s r (inr k) = let w = shows m x (omega arith) d s r k in
     simp counts (omega (arith, simp counts at w))
+shows m x c bottom s r k = elim k [ ]
 
 goes_out : {q ln head : ℕ} {next : ℕ → ℕ} {S : List ℕ} {p : Point} {g : Regs} {ins outs : List ℕ}
     → Loose q next ln head S g p ins outs → g.op ≢ 2 → outs ≡ []
@@ -289,7 +293,7 @@ goes_out (d6 a b) h = refl
 goes_out (d7 a b) h = absurd (h a)
 
 -- with no dequeue on the stack, no node is going out
-pub none_leaving : {top q n : ℕ} {v : View} {fr : ℕ → Frame} {st : Stack} {b : Bool} → Pile top q v fr n st b
+pub none_leaving : {top q : ℕ} {v : View} {fr : ℕ → Frame} {n : ℕ} {st : Stack} {b : Bool} → Pile top q v fr n st b
     → ((j : ℕ) → j < n → Works q (fr j) → (fr j).op ≢ 2) → leaving st ≡ []
 none_leaving bottom h = refl
 none_leaving (upon {l = l} a o e (is_loose {st = st} z t) d) h =
@@ -304,14 +308,14 @@ none_leaving (upon a o e (is_mark z i t) d) h = none_leaving d (λ j k. h j (ome
 abbrev pub with_lq : View → (ℕ → ℕ) → View
 with_lq v lq = record { ln = v.ln; lq = lq; next = v.next; head = v.head; tail = v.tail; settled = v.settled }
 
-pub taken_off : {top q n k : ℕ} {v : View} {fr : ℕ → Frame} {st : Stack} → n ≤ top → 1 ≤ q → Pile top q v fr n st true
+pub taken_off : {top q : ℕ} {v : View} {fr : ℕ → Frame} {n k : ℕ} {st : Stack} → n ≤ top → 1 ≤ q → Pile top q v fr n st true
     → Highest v.lq q k n → Listed k st
     → Pile top q (with_lq v (put v.lq k 0)) fr n st false
-taken_off {q = q} {k = k} {v = v} c q≥ (upon {l = l} a o e (is_loose {st = st} z t) d) h s =
+taken_off {q = q} {v = v} {k = k} c q≥ (upon {l = l} a o e (is_loose {st = st} z t) d) h s =
     let s' = highest_lower st z h s in
     let other = put_other v.lq k 0 l (λ i. z (rw (sym i) at h.registered)) in
     upon' a o e (is_loose (rw other z) t) (taken_off (omega arith) q≥ d (lower_highest (listed_below d s') a h) s')
-taken_off {top} {q} {k = k} {v = v} {fr = fr} c q≥ (upon {l = l} a o e (is_done {st = st} z i t) d) h s =
+taken_off {top} {q} {v} {fr} {k = k} c q≥ (upon {l = l} a o e (is_done {st = st} z i t) d) h s =
     let k= = highest_top a z h d s in
     let off : put v.lq k 0 l ≢ q = rw (sym k=) (rw (put_same v.lq k 0) (omega arith)) in
     upon' a o e (is_loose off e28_off)

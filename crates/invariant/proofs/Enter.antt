@@ -16,7 +16,7 @@ use Rattle.table.specs.Table.{row}
 use Rattle.chains.specs.Seg.{stop, link}
 use Rattle.invariant.specs.Ghost.{loose, owner, push, follow, origin, start}
 use Rattle.invariant.specs.Facts.{e1, e2, Free, Aim, behind, before, NotPast, e3, e4, e5, e6, e7, e13, e15}
-use Rattle.invariant.specs.Facts.{is_loose, is_owner}
+use Rattle.invariant.specs.Facts.{is_loose, is_owner, is_mark}
 use Rattle.invariant.specs.Sound.{Stand}
 use Rattle.invariant.proofs.Below.{hot_start, Shown, at_owner, at_mark, at_done, shown, taken_off}
 use Rattle.invariant.proofs.Turn.{Turn, Ok, by_eq, Case, to, below_ln, below_lq, Below, front}
@@ -42,6 +42,8 @@ module _ (T : Turn) where
   e1_ok at S x _ b _ (is_loose z (e1 h)) d s =
       to T E2 (loose (f.node.0 ∷ []) []) refl refl refl (is_loose z (e2 h (put_same M.ln l f.node.0)))
       (below_ln T d f.node.0) s
+  e1_ok at S x _ b _ (is_owner _ _ _ h) d s = elim h [ ]
+  e1_ok at S x _ _ _ (is_mark _ _ h) d s = elim h [ ]
 
   pub e2_ok : Case T E2
   unfolding row below_k_to
@@ -60,6 +62,8 @@ module _ (T : Turn) where
         settled = s.settled;
         all = λ y. simp counts (omega (arith, simp counts at (s.all y)));
       }
+  e2_ok at S x _ b _ (is_owner _ _ _ h) d s = elim h [ ]
+  e2_ok at S x _ _ _ (is_mark _ _ h) d s = elim h [ ]
 
   pub e3_ok : Case T E3
   unfolding row below_k_to
@@ -71,11 +75,15 @@ module _ (T : Turn) where
       (is_owner z n t (e7 (λ j m. free_down off h j (omega arith) m))) d s)
       (λ i. to T E3 (owner f.node.0 _) refl refl refl
       (is_owner z n t (e3 (omega arith) (λ j a c. free_down off h j (omega arith) c))) d s))
+  e3_ok at S x _ b _ (is_loose _ h) d s = elim h [ ]
+  e3_ok at S x _ _ _ (is_mark _ _ h) d s = elim h [ ]
 
   pub e4_ok : Case T E4
   unfolding row
   e4_ok at S x _ b _ (is_owner z n t (e4 h)) d s =
       to T E5 (owner f.node.0 _) refl refl refl (is_owner z n t (e5 h refl)) d s
+  e4_ok at S x _ b _ (is_loose _ h) d s = elim h [ ]
+  e4_ok at S x _ _ _ (is_mark _ _ h) d s = elim h [ ]
 
   pub e5_ok : Case T E5
   unfolding row below_m_to
@@ -117,6 +125,8 @@ module _ (T : Turn) where
               test false (apart r) = absurd (omega (arith, a r))
       by _ d (at_done i) = by_eq T (λ j. to T E6 (owner f.node.0 y) refl refl refl (is_owner z n t (e6 h refl)) d s)
           (λ j. absurd (j (rw T.here.queued (sym (e ∙ i)))))
+  e5_ok at S x _ b _ (is_loose _ h) d s = elim h [ ]
+  e5_ok at S x _ _ _ (is_mark _ _ h) d s = elim h [ ]
 
   pub e6_ok : Case T E6
   unfolding row below_k_to
@@ -132,3 +142,5 @@ module _ (T : Turn) where
     where
       lq= : put M.lq f.k.0 0 l ≡ q
       lq= = put_other M.lq f.k.0 0 l (omega (arith, h.below)) ∙ z
+  e6_ok at S x _ b _ (is_loose _ h) d s = elim h [ ]
+  e6_ok at S x _ _ _ (is_mark _ _ h) d s = elim h [ ]

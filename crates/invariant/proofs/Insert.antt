@@ -18,7 +18,7 @@ use Rattle.chains.specs.Seg.{Seg, stop}
 use Rattle.chains.proofs.Links.{seg_split, seg_nil, seg_rest}
 use Rattle.invariant.specs.Ghost.{owner, mark, origin}
 use Rattle.invariant.specs.Facts.{behind, before, e17, e18, e21, e22, e19, e20, e23, e24, e25, e26, e27, e28}
-use Rattle.invariant.specs.Facts.{is_owner, is_mark, is_done}
+use Rattle.invariant.specs.Facts.{is_owner, is_mark, is_done, is_loose}
 use Rattle.invariant.proofs.Below.{tail_in}
 use Rattle.invariant.proofs.Turn.{Turn, goes_on, by_eq, Case, stay, to, below_ln}
 use Rattle.invariant.proofs.Rules.{along, hang, close, move_on, settle}
@@ -36,6 +36,8 @@ module _ (T : Turn) where
   unfolding row
   e17_ok at S x _ b _ (is_owner z n t (e17 e a)) d s =
       to T E18 (owner f.node.0 _) refl refl refl (is_owner z n t (e18 e a refl)) d s
+  e17_ok at S x _ b _ (is_loose _ h) d s = elim h [ ]
+  e17_ok at S x _ _ _ (is_mark _ _ h) d s = elim h [ ]
 
   pub e18_ok : Case T E18
   unfolding row
@@ -46,6 +48,8 @@ module _ (T : Turn) where
       to T E19 (mark f.node.0 (w ++ t.more)) refl refl refl
       (is_mark z n (e19 o (record { block = w; rest = t.more; whole = refl; ends = k.ends; hangs = rw r k.hangs })
       (cnt_self f.node.0 w))) (rw e at k.pile) k.stand
+  e18_ok at S x _ b _ (is_loose _ h) d s = elim h [ ]
+  e18_ok at S x _ _ _ (is_mark _ _ h) d s = elim h [ ]
 
   pub e19_ok : Case T E19
   unfolding row
@@ -53,11 +57,15 @@ module _ (T : Turn) where
       along T 20 u.ends refl (omega (arith, simp (u.whole, counts) at (s.all 0), T.none)) h
       (λ k. to T E20 (mark p w) refl refl refl (is_mark z n (e20 a u k)) d s)
       (λ k. stay T E19 (mark p w) at refl refl (is_mark z n (e19 a u k)) d s)
+  e19_ok at S x _ b _ (is_loose _ h) d s = elim h [ ]
+  e19_ok at S x _ b _ (is_owner _ _ _ h) d s = elim h [ ]
 
   pub e20_ok : Case T E20
   unfolding row
   e20_ok at S x _ b _ (is_mark {s = p} {w = w} z n (e20 a u h)) d s = let k = close T f.c.0 u h d s in
       to T E28 (mark p w) refl refl refl (is_mark z n (e28 (λ o. absurd (a o)) k.whole)) k.pile k.stand
+  e20_ok at S x _ b _ (is_loose _ h) d s = elim h [ ]
+  e20_ok at S x _ b _ (is_owner _ _ _ h) d s = elim h [ ]
 
   -- ---- before a mark
 
@@ -66,6 +74,8 @@ module _ (T : Turn) where
   e21_ok at S x _ b _ (is_owner z n t (e21 e i j k)) d s =
       to T E22 (owner f.node.0 _) refl refl refl
       (is_owner z n t (e22 e i j k (last_next f.a.0 k t.linked ∙ sym i))) d s
+  e21_ok at S x _ b _ (is_loose _ h) d s = elim h [ ]
+  e21_ok at S x _ _ _ (is_mark _ _ h) d s = elim h [ ]
 
   pub e22_ok : Case T E22
   unfolding row
@@ -83,6 +93,8 @@ module _ (T : Turn) where
       far : origin top st ≢ top → f.a.0 ≢ M.tail q
       far o = differ y (last_in f.a.0 y h)
           (omega (arith, simp counts at (s.all (M.tail q)), T.once (M.tail q), tail_in (omega (arith, T.below)) d o))
+  e22_ok at S x _ b _ (is_loose _ h) d s = elim h [ ]
+  e22_ok at S x _ _ _ (is_mark _ _ h) d s = elim h [ ]
 
   pub e23_ok : Case T E23
   unfolding row
@@ -90,6 +102,8 @@ module _ (T : Turn) where
       along T 24 u.ends refl (omega (arith, simp (u.whole, counts) at (s.all 0), T.none)) h
       (λ k. to T E24 (mark p w) refl refl refl (is_mark z n (e24 a c u k)) d s)
       (λ k. stay T E23 (mark p w) at refl refl (is_mark z n (e23 a c u k)) d s)
+  e23_ok at S x _ b _ (is_loose _ h) d s = elim h [ ]
+  e23_ok at S x _ b _ (is_owner _ _ _ h) d s = elim h [ ]
 
   pub e24_ok : Case T E24
   unfolding row
@@ -98,6 +112,8 @@ module _ (T : Turn) where
       (is_mark z n (e25 a c k.whole
       (rw u.whole (let i = last_in f.c.0 (p ∷ u.block) h in simp counts (omega (arith, simp counts at i))))))
       k.pile k.stand
+  e24_ok at S x _ b _ (is_loose _ h) d s = elim h [ ]
+  e24_ok at S x _ b _ (is_owner _ _ _ h) d s = elim h [ ]
 
   -- tail stood at a: then this is the queue's own chain
   pub e25_ok : Case T E25
@@ -110,6 +126,8 @@ module _ (T : Turn) where
       own_chain : (t : Bool) → Same (origin top st) top t → M.tail f.queue.0 ≡ f.a.0 → origin top st ≡ top
       own_chain true (same o) i = o
       own_chain false (apart o) i = absurd (c o (sym i ∙ ap M.tail T.here.queued))
+  e25_ok at S x _ b _ (is_loose _ h) d s = elim h [ ]
+  e25_ok at S x _ b _ (is_owner _ _ _ h) d s = elim h [ ]
 
   pub e26_ok : Case T E26
   unfolding row
@@ -117,9 +135,13 @@ module _ (T : Turn) where
       let i = place f.c.0 (p ∷ w) h in let k = move_on T f.c.0 i.pre i.post i.whole g s in
       to T E27 (mark f.c.0 i.post) refl refl refl (is_mark z (put_same M.ln l f.c.0) (e27 a o k.piece refl))
       (below_ln T d f.c.0) k.stand
+  e26_ok at S x _ b _ (is_loose _ h) d s = elim h [ ]
+  e26_ok at S x _ b _ (is_owner _ _ _ h) d s = elim h [ ]
 
   pub e27_ok : Case T E27
   unfolding row
   e27_ok at S x _ b _ (is_mark z n (e27 a o g i)) d s =
       let k = settle T o (λ r. absurd (a r)) (rw i at g) d (rw i at s) in
       goes_on (point_is E28 28 refl) refl refl (is_done z (n ∙ i ∙ sym k.tail_is) o) k.pile k.stand k.begins
+  e27_ok at S x _ b _ (is_loose _ h) d s = elim h [ ]
+  e27_ok at S x _ b _ (is_owner _ _ _ h) d s = elim h [ ]

@@ -22,7 +22,7 @@ use Rattle.chains.proofs.Members.{differ}
 use Rattle.chains.specs.Seg.{Seg, stop, link}
 use Rattle.chains.proofs.Links.{seg_put, seg_rest, Walk, on, out, walk}
 use Rattle.invariant.specs.Ghost.{Item, loose, lists, flight, leaving, origin}
-use Rattle.invariant.specs.Facts.{e1, e28_off, e29, d1, d2, d3, d4, d5, d6, d7, e28, is_loose, is_mark, is_done}
+use Rattle.invariant.specs.Facts.{e1, e28_off, e29, d1, d2, d3, d4, d5, d6, d7, e28, is_loose, is_mark, is_done, is_owner}
 use Rattle.invariant.specs.Sound.{view}
 use Rattle.invariant.proofs.Keep.{keep_all, keep_hot, no_dequeue}
 use Rattle.invariant.proofs.Below.{hot_start, tail_in, start_own, none_leaving}
@@ -44,6 +44,7 @@ module _ (T : Turn) where
       to T E29 (loose [] []) refl refl refl (is_loose off e29) (below_lq T d 0) (take_off T h g s)
   e28_ok at S x _ b _ (is_done z n o) d s = to T E29 (loose [] []) refl refl refl (is_loose off e29) (below_lq T d 0) s
   e28_ok at S x _ b _ (is_loose z e28_off) d s = to T E29 (loose [] []) refl refl refl (is_loose off e29) (below_lq T d 0) s
+  e28_ok at S x _ b _ (is_owner _ _ _ h) d s = elim h [ ]
 
   -- an item that holds nothing is not missed
   bare : {S x : List ℕ} → Lists T own M S x (loose [] []) → Left T own M S x
@@ -54,6 +55,8 @@ module _ (T : Turn) where
   e29_ok at S x _ b _ (is_loose z e29) d s = by_eq T
       (λ i. has_ended z (below_ln T d 0) (bare s) (begins_same _))
       (λ i. to T D1 (loose [] []) refl refl refl (is_loose z (d1 (omega (arith, T.here)))) (below_ln T d 0) s)
+  e29_ok at S x _ b _ (is_owner _ _ _ h) d s = elim h [ ]
+  e29_ok at S x _ _ _ (is_mark _ _ h) d s = elim h [ ]
 
   -- ---- a dequeue
 
@@ -61,6 +64,8 @@ module _ (T : Turn) where
   unfolding row
   d1_ok at S x _ b _ (is_loose z (d1 o)) d s =
       to T D2 (loose [] []) refl refl refl (is_loose z (d2 o (ap M.head T.here.queued))) d s
+  d1_ok at S x _ b _ (is_owner _ _ _ h) d s = elim h [ ]
+  d1_ok at S x _ _ _ (is_mark _ _ h) d s = elim h [ ]
 
   -- head is not tail: the first settled node is head
   first_settled : {S : List ℕ} → Seg M.next (M.head q) S (M.tail q) → M.head q ≢ M.tail q
@@ -74,6 +79,8 @@ module _ (T : Turn) where
       (λ i. has_ended z d (bare s) (begins_same _))
       (λ i. let r = first_settled s.settled (λ j. i (ap M.tail T.here.queued ∙ sym j ∙ sym e)) in
       to T D3 (loose [] []) refl refl refl (is_loose z (d3 o (r.1 ∙ ap (λ y. y ∷ r.0) (sym e)))) d s)
+  d2_ok at S x _ b _ (is_owner _ _ _ h) d s = elim h [ ]
+  d2_ok at S x _ _ _ (is_mark _ _ h) d s = elim h [ ]
 
   -- tail is a node
   tail_some : {S x : List ℕ} {b : Bool} → Below T M S b → Lists T own M S x (loose [] []) → M.tail q ≢ 0
@@ -92,16 +99,22 @@ module _ (T : Turn) where
       by : Walk M.next f.c.0 (M.tail q) (f.c.0 ∷ R) R → ⊥
       by (on k) = let j : 0 < cnt 0 R = rw i at k in omega (arith, simp (e, counts) at (s.all 0), T.none)
       by (out j k) = tail_some d s (sym j ∙ i)
+  d3_goes_on (is_owner _ _ _ h) d s i = elim h [ ]
+  d3_goes_on (is_mark _ _ h) d s i = elim h [ ]
 
   pub d3_ok : Case T D3
   unfolding row
   d3_ok at S x _ b _ (is_loose z (d3 o e)) d s =
       by_eq T (λ i. absurd (d3_goes_on (is_loose z (d3 o e)) d s i))
       (λ i. to T D4 (loose [] []) refl refl refl (is_loose z (d4 o e)) d s)
+  d3_ok at S x _ b _ (is_owner _ _ _ h) d s = elim h [ ]
+  d3_ok at S x _ _ _ (is_mark _ _ h) d s = elim h [ ]
 
   pub d4_ok : Case T D4
   unfolding row
   d4_ok at S x _ b _ (is_loose z (d4 o e)) d s = to T D5 (loose [] []) refl refl refl (is_loose z (d5 o e refl)) d s
+  d4_ok at S x _ b _ (is_owner _ _ _ h) d s = elim h [ ]
+  d4_ok at S x _ _ _ (is_mark _ _ h) d s = elim h [ ]
 
   -- head moves on: the first settled node is in flight, the sentinel to come in again, any other to go out
   module _ {S R x : List ℕ} {b : Bool} (o : f.op ≡ 2) (e : S ≡ f.c.0 ∷ R) (r : f.r.0 ≡ M.next f.c.0)
@@ -139,6 +152,8 @@ module _ (T : Turn) where
       (λ i. goes_on (point_is D7 37 refl) refl refl (is_loose z (d7 o (λ j. i (j ∙ sym T.here.queued)))) (pile o e r d s)
       (taken o e r d s [] (f.c.0 ∷ []) (λ y. omega (arith, cnt_nil y)))
       (front_then o e r d s (f.c.0 ∷ []) refl))
+  d5_ok at S x _ b _ (is_owner _ _ _ h) d s = elim h [ ]
+  d5_ok at S x _ _ _ (is_mark _ _ h) d s = elim h [ ]
 
   -- a node in flight gets next 0: nothing of the lists moves
   module _ {S x ins outs : List ℕ} {b : Bool} (h : 0 < cnt f.c.0 ins + cnt f.c.0 outs) (d : Below T M S b)
@@ -172,6 +187,8 @@ module _ (T : Turn) where
 
       t : Lists T own (upd M (Next f.c) 0) S x (loose (f.c.0 ∷ []) [])
       t = stand_0 in_flight d s
+  d6_ok at S x _ b _ (is_owner _ _ _ h) d s = elim h [ ]
+  d6_ok at S x _ _ _ (is_mark _ _ h) d s = elim h [ ]
 
   without_other : (x : ℕ) (xs : List ℕ) → x ≢ q → without q (x ∷ xs) ≡ x ∷ without q xs
   unfolding without
@@ -198,3 +215,5 @@ module _ (T : Turn) where
 
       t : Lists T own (upd M (Next f.c) 0) S x (loose [] (f.c.0 ∷ []))
       t = stand_0 in_flight d s
+  d7_ok own' less at S x _ b _ (is_owner _ _ _ h) d s = elim h [ ]
+  d7_ok own' less at S x _ _ _ (is_mark _ _ h) d s = elim h [ ]

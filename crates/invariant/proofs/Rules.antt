@@ -8,7 +8,7 @@ use mathlib.Core.Bool.{Bool, true, false}
 use mathlib.Core.List.{List, [], ◌∷◌, ◌++◌, append_assoc, head-eq_of_cons-eq}
 use native.Mathlib.Omega.{arith}
 use Rattle.words.specs.declared.Word.TheVariants.{Next, Tail}
-use Rattle.words.specs.Layout.{node, queue}
+use Rattle.words.specs.Layout.{node}
 use Rattle.lists.specs.Count.{cnt, cnt_self, counts}
 use Rattle.lists.specs.Beginning.{Beginning, without, without_append}
 use Rattle.state.specs.Mem.{Mem, put, put_same, upd}

@@ -18,7 +18,7 @@ use Rattle.chains.specs.Member.{Last}
 use Rattle.chains.proofs.Members.{either, differ}
 use Rattle.chains.proofs.Links.{Walk, on, out, walk}
 use Rattle.invariant.specs.Ghost.{owner, lists, follow, origin, start}
-use Rattle.invariant.specs.Facts.{Aim, behind, before, NotPast, Walking, e13, e14, e15, e16, e17, e21, is_owner}
+use Rattle.invariant.specs.Facts.{Aim, behind, before, NotPast, Walking, e13, e14, e15, e16, e17, e21, is_owner, is_loose, is_mark}
 use Rattle.invariant.proofs.Below.{hot_start, start_own, start_owned, tail_in, origin_registered, Leads, leads}
 use Rattle.invariant.proofs.Below.{inner, inner_lists, inner_follow, shows}
 use Rattle.invariant.proofs.Turn.{Turn, Ok, by_eq, Case, stay, to, Below, Lists, front, HotBelow}
@@ -71,6 +71,8 @@ module _ (T : Turn) where
           let k = h g in
           let ne : origin top st ≢ f.m.0 = λ j. i (ap M.lq (sym j) ∙ origin_registered d g ∙ sym T.here.queued) in
           omega arith
+  e13_ok at S x _ b _ (is_loose _ h) d s = elim h [ ]
+  e13_ok at S x _ _ _ (is_mark _ _ h) d s = elim h [ ]
 
   pub e14_ok : Case T E14
   unfolding row
@@ -88,6 +90,8 @@ module _ (T : Turn) where
         above = h;
         more = λ g k. omega (arith, T.below);
       }
+  e14_ok at S x _ b _ (is_loose _ h) d s = elim h [ ]
+  e14_ok at S x _ _ _ (is_mark _ _ h) d s = elim h [ ]
 
   pub e15_ok : Case T E15
   unfolding row
@@ -108,6 +112,8 @@ module _ (T : Turn) where
 
       walking : origin top st ≡ top → Walking top (origin top st) top (M.tail f.queue.0) y
       walking h = record { here = λ j. in_hot h; above = λ g. absurd (g h); more = λ g. absurd (g h) }
+  e15_ok at S x _ b _ (is_loose _ h) d s = elim h [ ]
+  e15_ok at S x _ _ _ (is_mark _ _ h) d s = elim h [ ]
 
   -- where the link of a node that the walk stands on leads: on in the hot list, out of it at its end, or within the lists below
   data Onward (c : ℕ) (y more : List ℕ) : Type 0 where
@@ -215,3 +221,5 @@ module _ (T : Turn) where
         above = w.above;
         more = w.more;
       }
+  e16_ok at S x _ b _ (is_loose _ h) d s = elim h [ ]
+  e16_ok at S x _ _ _ (is_mark _ _ h) d s = elim h [ ]

@@ -23,7 +23,7 @@ use Rattle.table.specs.Frames.{counted}
 use Rattle.table.specs.Table.{Row, row}
 use Rattle.table.specs.declared.After.{After}
 use Rattle.invariant.specs.Ghost.{Item, Stack, push, Listed}
-use Rattle.invariant.specs.Facts.{regs, View, Here, is_loose, d7, Works, Pile, upon}
+use Rattle.invariant.specs.Facts.{regs, View, Here, is_loose, d7, Works, Pile, upon, bottom, is_mark, is_owner}
 use Rattle.invariant.specs.Sound.{view, StandIn, front_of, own_in, HereIn, PileIn, Stepping, Sound}
 use Rattle.invariant.proofs.Keep.{upon'}
 use Rattle.invariant.proofs.Below.{listed_below, listed_lower}
@@ -75,6 +75,8 @@ module _ (s : Sizes) (q l : ℕ) (W : State) (st : Stack) (low : l < s.levels) (
       let c = (W.frames l).c.0 in
       let mine : own_in s q W c ≡ 1 = omega (arith, simp counts at (t.all c), own_le s.queues W.mem.uses q c) in
       own_freed s.queues W.mem.uses q c q≥ (own_user s.queues W.mem.uses q c mine e) mine
+  one_less (is_owner _ _ _ h) t = elim h [ ]
+  one_less (is_mark _ _ h) t = elim h [ ]
 
   kept_at : (p : Point) → point_of (W.frames l).point ≡ p → (S x : List ℕ) (i : Item) (b b' : Bool)
       → HereIn s q W S l (counted (W.frames l)) p i st b b'
@@ -133,6 +135,7 @@ pub on_top : {top q n : ℕ} {v : View} {fr : ℕ → Frame} {st : Stack} {b : B
     → Pile top q v fr n st b → Listed l st → TopOf top q v fr l st b
 on_top l idle (upon a o e t d) (inl h) = rw h (top_is o (rw (sym e) at t) d)
 on_top l idle (upon {l = j} a o e t d) (inr h) = absurd (omega (arith, o, idle j (listed_below d h)))
+on_top l idle bottom h = elim h [ ]
 
 -- registered levels still have a frame on the queue
 registered_after : {s : Sizes} {q : ℕ} {W : State} {r : Row} → Within s q W r

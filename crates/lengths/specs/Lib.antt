@@ -1,4 +1,3 @@
 pub mod Running
-pub mod Ends
 pub mod Lines
 pub mod Events

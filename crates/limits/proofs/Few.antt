@@ -9,8 +9,9 @@ use lib.ListN.{length}
 use borrow.Author.Tests.{ne_eqb}
 use Rattle.words.specs.declared.Sizes.{Sizes}
 use Rattle.lists.specs.Count.{Same, same, apart, same?, hit, cnt, cnt_cons, cnt_nil, cnt_self}
-use Rattle.lists.specs.Beginning.{without, cnt_without}
-use Rattle.lists.specs.Short.{length_without}
+use Rattle.lists.specs.Beginning.{without}
+use Rattle.lists.proofs.Without.{cnt_without}
+use Rattle.lists.proofs.Short.{length_without}
 use Rattle.state.specs.View.{memory, state_of}
 use Rattle.state.specs.Step.{State}
 use Rattle.state.specs.Queues.{own}

@@ -1,1 +1,2 @@
 // No line of a log shows more steps than the bound. Theory only.
+#![tactic(auto)]

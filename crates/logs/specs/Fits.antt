@@ -19,9 +19,10 @@ use Rattle.fresh.specs.Fresh.{fresh_table, fresh_of}
 use Rattle.asks.specs.Listing.{listing_of}
 use Rattle.play.specs.Play.{events_of}
 use Rattle.lengths.specs.Running.{running}
-use Rattle.lengths.specs.Ends.{fresh_idle}
 use Rattle.lengths.specs.Lines.{line_most, line_most_holds, text_most, queue_most, unquiet_most}
-use Rattle.lengths.specs.Events.{begun_in, events_most, begun_lines}
+use Rattle.lengths.specs.Events.{begun_in, begun_lines}
+use Rattle.lengths.proofs.Ends.{fresh_idle}
+use Rattle.lengths.proofs.Events.{events_most}
 use Rattle.logs.specs.declared.Kind.{Kind}
 use Rattle.logs.specs.declared.Kind.TheVariants.{Plain, Bounds}
 use Rattle.logs.specs.Log.{

@@ -135,6 +135,20 @@ module _ {top l q : ℕ} {A B : Mem} (low : l < top) (r : Alike top l q A B) whe
     row_paired point.D6 h = store (put_next f.c.0 0) (on w)
     row_paired point.D7 h = free
     row_paired Unknown h = absurd (unknown h)
+    row_paired point.E3 (facts.is_loose _ h) = elim h [ ]
+    row_paired point.E3 (facts.is_mark _ _ h) = elim h [ ]
+    row_paired point.E4 (facts.is_loose _ h) = elim h [ ]
+    row_paired point.E4 (facts.is_mark _ _ h) = elim h [ ]
+    row_paired point.E5 (facts.is_loose _ h) = elim h [ ]
+    row_paired point.E5 (facts.is_mark _ _ h) = elim h [ ]
+    row_paired point.E6 (facts.is_loose _ h) = elim h [ ]
+    row_paired point.E6 (facts.is_mark _ _ h) = elim h [ ]
+    row_paired point.E13 (facts.is_loose _ h) = elim h [ ]
+    row_paired point.E13 (facts.is_mark _ _ h) = elim h [ ]
+    row_paired point.E14 (facts.is_loose _ h) = elim h [ ]
+    row_paired point.E14 (facts.is_mark _ _ h) = elim h [ ]
+    row_paired point.E16 (facts.is_loose _ h) = elim h [ ]
+    row_paired point.E16 (facts.is_mark _ _ h) = elim h [ ]
 
   pub then_both : {x y : Row} (f g : Frame) → Paired top l q A B x y → Both top l q (then A x f) (then B y g)
   then_both f g (load e h) = rw (← e) (h _)

@@ -1,1 +1,2 @@
 // What the waiting count promises a reader: dequeues on the table itself return as many nodes. Theory only.
+#![tactic(auto)]

@@ -1,1 +1,3 @@
+#![tactic(auto)]
+
 // The worked runs of document 01 that are proved: theory only.

@@ -7,7 +7,7 @@ use Rattle.std.proofs.Math.ListN.{length-append}
 use Rattle.std.proofs.Common.{le-ltb}
 use Rattle.ways.specs.Schedules.{Move, schedules}
 use Rattle.entries.specs.Texts.{counts, schedule_text}
-use Rattle.entries.specs.Entries.{text_top}
+use Rattle.entries.proofs.Entries.{text_top}
 use Rattle.search.specs.declared.Asked.{Asked}
 use Rattle.search.specs.Walk.{sizes_of, ops_of}
 use Rattle.tries.specs.Tries.{joined, texts}

@@ -20,8 +20,8 @@ use Rattle.search.specs.declared.What.{What}
 use Rattle.search.specs.declared.What.TheVariants.{Count, Tally, Measure, Write}
 use Rattle.search.specs.Walk.{sizes_of, ops_of, entry_text, State, more, going, cut, full, shut, fits, noted, written, entered}
 use Rattle.search.specs.Walk.{emitted, listing, none, listed_of, asks}
-use Rattle.search.specs.Emits.{emit_bound, emit_open}
-use Rattle.search.specs.Laws.{listing_closed}
+use Rattle.search.proofs.Emits.{emit_bound, emit_open}
+use Rattle.search.proofs.Laws.{listing_closed}
 use Rattle.tries.specs.Tries.{joined, more_than, texts, Answer, listed_in}
 
 -- what becomes of the room

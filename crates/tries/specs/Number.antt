@@ -15,7 +15,7 @@ use Rattle.search.specs.declared.Asked.{Asked}
 use Rattle.search.specs.declared.Listed.{Listed}
 use Rattle.search.specs.declared.What.{What}
 use Rattle.search.specs.declared.What.TheVariants.{Count, Tally, Measure, Write}
-use Rattle.search.specs.Emits.{ops_length, emit_open}
+use Rattle.search.proofs.Emits.{ops_length, emit_open}
 use Rattle.search.specs.Walk.{sizes_of, ops_of, State, more, going, entered, emitted, listing, none, listed_of}
 use Rattle.tries.specs.Tries.{tallied_all}
 

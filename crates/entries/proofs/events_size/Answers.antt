@@ -4,7 +4,7 @@ use lib.ListN.{length}
 use native.Mathlib.Omega.{arith}
 use Rattle.text.specs.declared.Event.{Event}
 use Rattle.text.specs.Text.{events_text}
-use Rattle.entries.specs.Entries.{events_start, bytes_start, count_at_more, bytes_at_more, event_bytes, events_top, at_end}
+use Rattle.entries.proofs.Entries.{events_start, bytes_start, count_at_more, bytes_at_more, event_bytes, events_top, at_end}
 use borrow.Author.Rules.{rules}
 use Rattle.entries.proofs.events_size.Goals as goal
 

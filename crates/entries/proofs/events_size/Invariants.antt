@@ -2,7 +2,7 @@ use Prim.Native.Nat.{◌≤◌, ◌+◌, ◌*◌, ◌-◌}
 use mathlib.Core.Path.{◌≡◌}
 use lib.ListN.{length}
 use Rattle.text.specs.Text.{events_text}
-use Rattle.entries.specs.Entries.{events_at}
+use Rattle.entries.proofs.Entries.{events_at}
 use Rattle.entries.proofs.events_size.Given as goal
 
 abbrev pub invariant-loop-j : goal.invariant-loop-j

@@ -1,7 +1,7 @@
 use native.Mathlib.Omega.{arith}
 use mathlib.Core.Path.{ap}
 use lib.ListN.{length}
-use Rattle.entries.specs.Entries.{no_steps, no_steps_text, some_steps, steps_text, s_line_top}
+use Rattle.entries.proofs.Entries.{no_steps, no_steps_text, some_steps, steps_text, s_line_top}
 use borrow.Author.Rules.{rules}
 use Rattle.entries.proofs.steps_size.Goals as goal
 

@@ -7,7 +7,7 @@ use native.Mathlib.Omega.{arith}
 use Rattle.heads.specs.Laws.{putting_goes_on, putting_ends}
 use Rattle.text.specs.Text.{events_text}
 use Rattle.entries.specs.Texts.{step_events}
-use Rattle.entries.specs.Entries.{events_at, putting_first, at_more, bytes_at_more, event_bytes, event_text_holds, text_at_end}
+use Rattle.entries.proofs.Entries.{events_at, putting_first, at_more, bytes_at_more, event_bytes, event_text_holds, text_at_end}
 use borrow.Author.Rules.{rules}
 use Rattle.entries.proofs.write_events.Goals as goal
 

@@ -3,7 +3,7 @@ use mathlib.Core.Path.{◌≡◌}
 use lib.ListN.{length}
 use Rattle.heads.specs.Put.{Putting}
 use Rattle.text.specs.Text.{events_text}
-use Rattle.entries.specs.Entries.{events_at}
+use Rattle.entries.proofs.Entries.{events_at}
 use Rattle.entries.proofs.write_events.Given as goal
 
 abbrev pub invariant-loop-j : goal.invariant-loop-j

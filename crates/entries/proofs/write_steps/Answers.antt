@@ -1,7 +1,7 @@
 use native.Mathlib.Omega.{arith}
 use mathlib.Core.Path.{ap, refl}
 use lib.ListN.{length}
-use Rattle.entries.specs.Entries.{no_steps_text, steps_text}
+use Rattle.entries.proofs.Entries.{no_steps_text, steps_text}
 use Rattle.entries.proofs.write_steps.Goals as goal
 
 -- src/lib.rt:237:9

@@ -1,8 +1,8 @@
 use native.Mathlib.Omega.{arith}
 use Rattle.heads.specs.Laws.{put_after}
 use Rattle.text.specs.Text.{text_of}
-use Rattle.entries.specs.Entries.{events_at}
-use Rattle.entries.specs.Entries.{text_length}
+use Rattle.entries.proofs.Entries.{events_at}
+use Rattle.entries.proofs.Entries.{text_length}
 use Rattle.entries.proofs.write_text.Goals as goal
 
 -- src/lib.rt:272:9

@@ -1,5 +1,5 @@
-use Rattle.search.specs.Laws.{step_cut, step_more, step_last, begin_none, begin_cut, begin_more, begin_last, begin_stop}
-use Rattle.search.specs.Laws.{listing_closed, copied, count_more, last_path}
+use Rattle.search.proofs.Laws.{step_cut, step_more, step_last, begin_none, begin_cut, begin_more, begin_last, begin_stop}
+use Rattle.search.proofs.Laws.{listing_closed, copied, count_more, last_path}
 use Rattle.words.specs.Copies.{part_length}
 use lib.ListN.{length}
 use mathlib.Core.Path.{refl, sym, ap}

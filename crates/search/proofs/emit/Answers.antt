@@ -1,5 +1,5 @@
-use Rattle.search.specs.Laws.{emit_closed}
-use Rattle.search.specs.Emits.{emit_bound, counted_so, tallied_so, measured_so, written_so}
+use Rattle.search.proofs.Laws.{emit_closed}
+use Rattle.search.proofs.Emits.{emit_bound, counted_so, tallied_so, measured_so, written_so}
 use Rattle.search.proofs.emit.Goals as goal
 
 -- src/lib.rt:165:9

@@ -1,4 +1,4 @@
-use Rattle.search.specs.Emits.{ends_so, cut_so}
+use Rattle.search.proofs.Emits.{ends_so, cut_so}
 use borrow.Author.Rules.{rules}
 use Rattle.search.proofs.emit_tail.Goals as goal
 

@@ -1,4 +1,4 @@
-use Rattle.search.specs.Emits.{room_is, room_fits, room_none, room_off}
+use Rattle.search.proofs.Emits.{room_is, room_fits, room_none, room_off}
 use Rattle.search.proofs.has_room.Goals as goal
 
 -- src/lib.rt:115:1

@@ -1,5 +1,5 @@
 use native.Mathlib.Omega.{arith}
-use Rattle.search.specs.Emits.{bytes_are, measured_fits, measured_full}
+use Rattle.search.proofs.Emits.{bytes_are, measured_fits, measured_full}
 use Rattle.search.proofs.measure_entry.Goals as goal
 
 -- src/lib.rt:130:9

@@ -1,7 +1,7 @@
 use native.Mathlib.Omega.{arith}
 use mathlib.Core.Path.{ap}
 use lib.ListN.{length}
-use Rattle.search.specs.Emits.{text_is, bytes_are, measured_fits, measured_full, written_fits, written_full}
+use Rattle.search.proofs.Emits.{text_is, bytes_are, measured_fits, measured_full, written_fits, written_full}
 use Rattle.search.proofs.write_entry.Goals as goal
 
 -- src/lib.rt:145:13

@@ -2,7 +2,8 @@
 use Rattle.std.specs.Prelude.{ℕ, zero, suc, ◌+◌, ◌≤◌, ◌<◌, ◌≡◌, Bool, true, false, cond, List, [], ◌∷◌, eqb, length}
 use Rattle.std.proofs.Common.{sym, arith, eq-eqb, ne_eqb}
 use Rattle.lists.specs.Count.{Same, same, apart, same?, cnt, cnt_cons, cnt_self, counts}
-use Rattle.lists.specs.Beginning.{without, cnt_without}
+use Rattle.lists.specs.Beginning.{without}
+use Rattle.lists.proofs.Without.{cnt_without}
 
 pub length_without : (n : ℕ) (xs : List ℕ) → length xs ≡ length (without n xs) + cnt n xs
 unfolding without

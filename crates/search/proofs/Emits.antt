@@ -12,7 +12,7 @@ use Rattle.ways.specs.declared.Tail.{Tail}
 use Rattle.ways.specs.declared.Tail.TheVariants.{Ends, Cut}
 use Rattle.ways.specs.Schedules.{ops_in}
 use Rattle.entries.specs.Texts.{first, others, events_of}
-use Rattle.entries.specs.Entries.{text_length}
+use Rattle.entries.proofs.Entries.{text_length}
 use Rattle.outcomes.specs.Tallies.{tallied}
 use Rattle.outcomes.specs.TalliesLaws.{tallied_take}
 use Rattle.search.specs.declared.Asked.{Asked}
@@ -21,7 +21,7 @@ use Rattle.search.specs.declared.What.{What}
 use Rattle.search.specs.declared.What.TheVariants.{Count, Tally, Measure, Write}
 use Rattle.search.specs.Walk.{sizes_of, ops_of, entry_text, State, more, going, cut, full, shut}
 use Rattle.search.specs.Walk.{fits, noted, written, entered, emitted, tailed}
-use Rattle.search.specs.Laws.{count_more}
+use Rattle.search.proofs.Laws.{count_more}
 
 -- ---- the text by the counts that are used of a path
 
