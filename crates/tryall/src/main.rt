@@ -23,8 +23,8 @@ fn list(rt: &HostRuntime, text: &[u8], bound: u32) {
     }
 }
 
-// In the larger room. Two functions call this one, so that the compiler does not lay that room into main: for the other a stack of 8 MB
-// is enough.
+// In the larger room, which is not laid into main: for the other a stack of 8 MB is enough.
+#[inline(never)]
 fn list_many(rt: &HostRuntime, text: &[u8], bound: u32) {
     let mut room = [0u8; LARGE_ROOM];
     if !print_in_large(rt, text, bound, &mut room) {
