@@ -43,8 +43,16 @@ use Rattle.invariant.proofs.Levels.{each, same_frames, raise}
 module _ (s : Sizes) (q l : ℕ) (W : State) (st : Stack) (low : l < s.levels) (q≥ : 1 ≤ q) (works : Works q (W.frames l))
     (listed : (j : ℕ) → j < l → W.mem.lq j ≡ q → Listed j st)
     (alone : (W.frames l).op ≡ 2 → (j : ℕ) → j < l → Works q (W.frames j) → (W.frames j).op ≢ 2) where
-  abbrev pub turn : Turn
+  -- one step counted, and all else as it was; said by themselves, so that turn needs no definition opened
+  pub works_counted : Works q (counted (W.frames l))
   unfolding counted
+  works_counted = record { busy = works.busy; known = works.known; queued = works.queued }
+
+  pub alone_counted : (counted (W.frames l)).op ≡ 2 → (j : ℕ) → j < l → Works q (W.frames j) → (W.frames j).op ≢ 2
+  unfolding counted
+  alone_counted = alone
+
+  abbrev pub turn : Turn
   turn = record {
     top = s.levels;
     q = q;
@@ -56,11 +64,11 @@ module _ (s : Sizes) (q l : ℕ) (W : State) (st : Stack) (low : l < s.levels) (
     f = counted (W.frames l);
     queued = q≥;
     below = low;
-    here = record { busy = works.busy; known = works.known; queued = works.queued };
+    here = works_counted;
     once = own_le s.queues W.mem.uses q;
     none = own_zero s.queues W.mem.uses q q≥;
     listed = listed;
-    alone = alone;
+    alone = alone_counted;
   }
 
   abbrev row_at : Point → Row

@@ -23,7 +23,7 @@ fn list(rt: &HostRuntime, text: &[u8], bound: u32) {
     }
 }
 
-// In the larger room, which is not to be laid into main: for the other a stack of 8 MB is enough.
+// In the larger room, which is not laid into main: for the other a stack of 8 MB is enough.
 #[inline(never)]
 fn list_many(rt: &HostRuntime, text: &[u8], bound: u32) {
     let mut room = [0u8; LARGE_ROOM];
