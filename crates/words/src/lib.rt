@@ -1,7 +1,7 @@
 // The lent table: its sizes, its words by name, and its frames. No other crate knows where a word stands.
 #![tactic(auto)]
 
-ghost use Rattle.std.specs.Prelude.{◌≡◌, true, ◌+◌, ◌-◌, ◌≤◌, ◌<◌, length, get_or, drop};
+ghost use Rattle.std.specs.Prelude.{◌≡◌, true, ◌+◌, ◌-◌, ◌≤◌, ◌<◌, length, get_or, drop, Some};
 ghost use Rattle.std.proofs.Math.Seq.{paste};
 ghost use Rattle.words.specs.Layout.{
   within,
@@ -22,16 +22,15 @@ ghost use Rattle.words.specs.Layout.{
 };
 ghost use Rattle.words.specs.Copy.{taller, raised};
 ghost use Rattle.words.specs.Inner.{Small, Fits, Placed};
-ghost use Rattle.words.specs.declared.Measured.TheVariants.{Sized};
 
 // A level, a queue and a node: three kinds of number.
-#[derive(Clone, Copy)]
+#[derive(Clone, Copy, Debug, PartialEq, Eq)]
 pub struct Level(pub u16);
 
-#[derive(Clone, Copy)]
+#[derive(Clone, Copy, Debug, PartialEq, Eq)]
 pub struct Queue(pub u16);
 
-#[derive(Clone, Copy)]
+#[derive(Clone, Copy, Debug, PartialEq, Eq)]
 pub struct Node(pub u16);
 
 #[derive(Clone, Copy)]
@@ -39,12 +38,6 @@ pub struct Sizes {
     pub levels: usize,
     pub queues: usize,
     pub nodes: usize,
-}
-
-#[derive(Clone, Copy)]
-pub enum Measured {
-    Sized(Sizes),
-    Unfit,
 }
 
 // A word of the table that is no count and no frame's.
@@ -113,24 +106,18 @@ impl Node {
 }
 
 // Whether x is from..to.
+#[tactic(auto, unfolding(crate::specs::Layout::within))]
 pub fn between(from: usize, to: usize, x: usize) -> bool
     ensures { result ≡ within from to x }
 {
-    if from <= x { x <= to } else { false }
+    from <= x && x <= to
 }
 
+#[tactic(auto, unfolding(crate::specs::Layout::limits))]
 pub fn in_limits(s: Sizes) -> bool
     ensures { result ≡ limits s }
 {
-    if between(1, 16, s.levels) {
-        if between(1, 8, s.queues) {
-            between(s.queues, 1024, s.nodes)
-        } else {
-            false
-        }
-    } else {
-        false
-    }
+    between(1, 16, s.levels) && between(1, 8, s.queues) && between(s.queues, 1024, s.nodes)
 }
 
 // How many words a table of these sizes has.
@@ -146,7 +133,7 @@ fn peek(t: &[u16], i: usize) -> usize
     ensures value { result ≡ get_or t.now i 0 }
     ensures upper_bound { result < 65536 }
 {
-    if i < t.len() { wide(t[i]) } else { 0 }
+    t.get(i).map_or(0, |w| usize::from(*w))
 }
 
 // The sizes that the table's counts say.
@@ -164,31 +151,22 @@ fn counts(t: &[u16]) -> Sizes
     }
 }
 
+#[tactic(auto, unfolding(crate::specs::Layout::agrees))]
 fn agreeing(s: Sizes, t: &[u16]) -> bool
     requires { Small s }
     ensures { result ≡ agrees s t.now }
 {
-    if in_limits(s) {
-        if words_of(s) <= t.len() {
-            peek(t, 3 + 2 * s.levels + 2 * s.queues + 2 * s.nodes) == s.levels
-        } else {
-            false
-        }
-    } else {
-        false
-    }
+    in_limits(s)
+        && words_of(s) <= t.len()
+        && peek(t, 3 + 2 * s.levels + 2 * s.queues + 2 * s.nodes) == s.levels
 }
 
 // The table's sizes, if its counts are right and it is long enough.
-pub fn measure(t: &[u16]) -> Measured
+pub fn measure(t: &[u16]) -> Option<Sizes>
     ensures { result ≡ measured t.now }
 {
     let s = counts(t);
-    if agreeing(s, t) {
-        Measured::Sized(s)
-    } else {
-        Measured::Unfit
-    }
+    if agreeing(s, t) { Some(s) } else { None }
 }
 
 // Writes the counts.
@@ -343,16 +321,12 @@ fn copy_part(from: &[u16], at: usize, n: usize, to: &mut [u16], place: usize)
     requires { (at + n ≤ length from.now) × (place + n ≤ length to.old) }
     ensures { to.new ≡ paste to.old place (drop at from.now) n }
 {
-    let mut i = 0;
-    while i < n {
-        to[place + i] = from[at + i];
-        i += 1;
-    }
+    to[place..place + n].copy_from_slice(&from[at..at + n]);
 }
 
 // Copies a table with one more idle level on top.
 pub fn raise(t: &[u16], s: Sizes, copy: &mut [u16])
-    requires t_value { measured t.now ≡ Sized s }
+    requires t_value { measured t.now ≡ Some s }
     requires copy_len { length copy.old ≡ words (taller s) }
     ensures { copy.new ≡ raised s t.now }
 {
