@@ -24,13 +24,13 @@ ghost use Rattle.words.specs.Copy.{taller, raised};
 ghost use Rattle.words.specs.Inner.{Small, Fits, Placed};
 
 // A level, a queue and a node: three kinds of number.
-#[derive(Clone, Copy, Debug, PartialEq, Eq)]
+#[derive(Clone, Copy, Default, PartialEq, Eq)]
 pub struct Level(pub u16);
 
-#[derive(Clone, Copy, Debug, PartialEq, Eq)]
+#[derive(Clone, Copy, Default, PartialEq, Eq)]
 pub struct Queue(pub u16);
 
-#[derive(Clone, Copy, Debug, PartialEq, Eq)]
+#[derive(Clone, Copy, Default, PartialEq, Eq)]
 pub struct Node(pub u16);
 
 #[derive(Clone, Copy)]
@@ -51,7 +51,7 @@ pub enum Word {
     Use(Node),
 }
 
-#[derive(Clone, Copy)]
+#[derive(Clone, Copy, Default)]
 pub struct Frame {
     pub op: u16,
     pub point: u16,
@@ -66,12 +66,6 @@ pub struct Frame {
     pub steps: u16,
 }
 
-pub fn wide(x: u16) -> usize
-    ensures { result ≡ x }
-{
-    x as usize
-}
-
 pub fn narrow(x: usize) -> u16
     requires { x < 65536 }
     ensures { result ≡ x }
@@ -83,7 +77,7 @@ impl Level {
     pub fn index(self) -> usize
         ensures { result ≡ self.0 }
     {
-        wide(self.0)
+        usize::from(self.0)
     }
 }
 
@@ -92,7 +86,7 @@ impl Queue {
         requires { 1 ≤ self.0 }
         ensures { result ≡ self.0 - 1 }
     {
-        wide(self.0) - 1
+        usize::from(self.0) - 1
     }
 }
 
@@ -101,7 +95,7 @@ impl Node {
         requires { 1 ≤ self.0 }
         ensures { result ≡ self.0 - 1 }
     {
-        wide(self.0) - 1
+        usize::from(self.0) - 1
     }
 }
 
@@ -186,10 +180,10 @@ pub fn has_word(s: Sizes, w: Word) -> bool
     match w {
         Word::LevelNode(l) => l.index() < s.levels,
         Word::LevelQueue(l) => l.index() < s.levels,
-        Word::Head(q) => between(1, s.queues, wide(q.0)),
-        Word::Tail(q) => between(1, s.queues, wide(q.0)),
-        Word::Next(n) => between(1, s.nodes, wide(n.0)),
-        Word::Use(n) => between(1, s.nodes, wide(n.0)),
+        Word::Head(q) => between(1, s.queues, usize::from(q.0)),
+        Word::Tail(q) => between(1, s.queues, usize::from(q.0)),
+        Word::Next(n) => between(1, s.nodes, usize::from(n.0)),
+        Word::Use(n) => between(1, s.nodes, usize::from(n.0)),
     }
 }
 
@@ -272,36 +266,16 @@ pub fn write_frame(t: &mut [u16], s: Sizes, l: Level, f: Frame)
     ensures { t.new ≡ put_frame s t.old l f }
 {
     let b = frame_place(s, l);
-    t[b] = f.op;
-    t[b + 1] = f.point;
-    t[b + 2] = f.queue.0;
-    t[b + 3] = f.node.0;
-    t[b + 4] = f.k.0;
-    t[b + 5] = f.p.0;
-    t[b + 6] = f.c.0;
-    t[b + 7] = f.a.0;
-    t[b + 8] = f.r.0;
-    t[b + 9] = f.m.0;
-    t[b + 10] = f.steps;
+    t[b..b + 11].copy_from_slice(&[
+        f.op, f.point, f.queue.0, f.node.0, f.k.0, f.p.0, f.c.0, f.a.0, f.r.0, f.m.0, f.steps,
+    ]);
 }
 
 // The frame of a level that runs nothing.
 pub fn no_frame() -> Frame
     ensures { result ≡ no_frame }
 {
-    Frame {
-        op: 0,
-        point: 0,
-        queue: Queue(0),
-        node: Node(0),
-        k: Level(0),
-        p: Node(0),
-        c: Node(0),
-        a: Node(0),
-        r: Node(0),
-        m: Level(0),
-        steps: 0,
-    }
+    Frame::default()
 }
 
 // The sizes with one more level.
@@ -311,8 +285,7 @@ pub fn add_level(s: Sizes) -> Sizes
 {
     Sizes {
         levels: s.levels + 1,
-        queues: s.queues,
-        nodes: s.nodes,
+        ..s
     }
 }
 
