@@ -1,10 +1,8 @@
 -- Listing a queue: its nodes from head along next, the sentinel left out, into lent room.
-use Rattle.std.specs.Prelude.{ℕ, zero, suc, List, [], ◌∷◌, ◌++◌, cond, length, drop, ltb, eqb}
+use Rattle.std.specs.Prelude.{ℕ, zero, suc, List, [], ◌∷◌, ◌++◌, cond, length, drop, ltb, eqb, Option, Some, None}
 use Rattle.std.proofs.Math.Option.{Option, none, some}
 use Rattle.words.specs.declared.Queue.{Queue}
 use Rattle.words.specs.declared.Sizes.{Sizes}
-use Rattle.words.specs.declared.Measured.{Measured}
-use Rattle.words.specs.declared.Measured.TheVariants.{Sized, Unfit}
 use Rattle.words.specs.declared.Word.TheVariants.{Head, Next}
 use Rattle.words.specs.Layout.{node, rd, measured}
 use Rattle.answers.specs.Said.{Said, refused, says}
@@ -38,9 +36,9 @@ unfoldable pub listing_sized : Sizes → List ℕ → Queue → List ℕ → Sai
 listing_sized s t q room =
     cond (no_queue s q) (refused 4, room) (cond (unquiet s t q) (refused 11, room) (listed (nodes_of s t q) room))
 
-unfoldable pub listing_measured : List ℕ → Queue → List ℕ → Measured → Said ℕ × List ℕ
-listing_measured t q room Unfit = (refused 1, room)
-listing_measured t q room (Sized s) = listing_sized s t q room
+unfoldable pub listing_measured : List ℕ → Queue → List ℕ → Option Sizes → Said ℕ × List ℕ
+listing_measured t q room None = (refused 1, room)
+listing_measured t q room (Some s) = listing_sized s t q room
 
 -- refusals 1, 4, 11, 10, 12
 unfoldable pub listing_of : List ℕ → Queue → List ℕ → Said ℕ × List ℕ

@@ -1,11 +1,9 @@
 -- One step: what it answers, and the table afterwards.
-use Rattle.std.specs.Prelude.{ℕ, zero, suc, List, Bool, cond, not, ◌&&◌, leb, eqb}
+use Rattle.std.specs.Prelude.{ℕ, zero, suc, List, Bool, cond, not, ◌&&◌, leb, eqb, Option, Some, None}
 use Rattle.words.specs.declared.Level.{Level}
 use Rattle.words.specs.declared.Node.{Node}
 use Rattle.words.specs.declared.Sizes.{Sizes}
 use Rattle.words.specs.declared.Frame.{Frame}
-use Rattle.words.specs.declared.Measured.{Measured}
-use Rattle.words.specs.declared.Measured.TheVariants.{Sized, Unfit}
 use Rattle.words.specs.declared.Word.TheVariants.{Next, Use}
 use Rattle.words.specs.Layout.{level, within, measured, has, rd, wr, frame_of, put_frame, no_frame}
 use Rattle.answers.specs.declared.End.{End}
@@ -65,9 +63,9 @@ step_served s t (At l) = step_frame s t l (counted (frame_of s t l))
 unfoldable pub step_sized : Sizes → List ℕ → Out
 step_sized s t = step_served s t (serving s t s.levels)
 
-unfoldable pub step_measured : List ℕ → Measured → Out
-step_measured t Unfit = (refused 1, t)
-step_measured t (Sized s) = step_sized s t
+unfoldable pub step_measured : List ℕ → Option Sizes → Out
+step_measured t None = (refused 1, t)
+step_measured t (Some s) = step_sized s t
 
 -- refusals 1, 9, 10
 unfoldable pub step_of : List ℕ → Out
