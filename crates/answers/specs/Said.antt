@@ -63,6 +63,11 @@ abbrev pub answer_says : {A : Type 0} → Result A Refusal → Said A
 answer_says (Ok x) = says x
 answer_says (Err r) = refused (number r)
 
+-- the number of the refusal, and 0 where there is none
+abbrev pub refusal_number : Result Unit Refusal → ℕ
+refusal_number (Ok x) = 0
+refusal_number (Err r) = number r
+
 abbrev pub step_says : Result (Option End) Refusal → Said Step
 step_says (Ok None) = says going_on
 step_says (Ok (Some e)) = says (ended e)
