@@ -18,8 +18,6 @@ use Rattle.answers.specs.Said.{Said, refused, says, Step, going_on, ended, Why, 
 use Rattle.table.specs.Table.{Row, loads, stores, frees, nothing}
 use Rattle.table.specs.declared.After.{After}
 use Rattle.table.specs.declared.After.TheVariants.{Go, Done}
-use Rattle.steps.specs.declared.Served.{Served}
-use Rattle.steps.specs.declared.Served.TheVariants.{At, Nobody}
 use Rattle.steps.specs.Step.{Out, sound, settled, performed, step_frame, step_served, step_sized, step_measured, step_of}
 use Rattle.steps.specs.Run.{ran_on, run_from, run_measured, run_of}
 use Rattle.steps.specs.Held.{step_of_run}
@@ -59,10 +57,10 @@ module _ (s : Sizes) where
       (λ h. settled_kept _ l f next (measured_wr s _ (Use n) 0 (measured_wr s t (Next n) 0 m h) (has_use s n h)))
   performed_kept t l f nothing m = damaged t m
 
-  served_kept : (t : List ℕ) (v : Served) → measured t ≡ Some s → Kept s (step_served s t v)
+  served_kept : (t : List ℕ) (v : Option Level) → measured t ≡ Some s → Kept s (step_served s t v)
   unfolding step_served step_frame
-  served_kept t Nobody m = record { sized = m; known = inl refl }
-  served_kept t (At l) m = access_kept (sound s _) _ t m (λ h. performed_kept t l _ _ m)
+  served_kept t None m = record { sized = m; known = inl refl }
+  served_kept t (Some l) m = access_kept (sound s _) _ t m (λ h. performed_kept t l _ _ m)
 
   pub step_kept : (t : List ℕ) → measured t ≡ Some s → Kept s (step_sized s t)
   unfolding step_sized

@@ -13,17 +13,15 @@ use Rattle.table.specs.Frames.{counted}
 use Rattle.table.specs.Table.{Row, loads, stores, frees, nothing, row}
 use Rattle.table.specs.declared.After.{After}
 use Rattle.table.specs.declared.After.TheVariants.{Go, Done}
-use Rattle.steps.specs.declared.Served.{Served}
-use Rattle.steps.specs.declared.Served.TheVariants.{At, Nobody}
 
 -- what is said, and the table afterwards
 abbrev pub Out : Type 0
 Out = Said Step × List ℕ
 
 -- the highest level below n whose op is not 0
-unfoldable pub serving : Sizes → List ℕ → ℕ → Served
-serving s t zero = Nobody
-serving s t (suc n) = cond (eqb (frame_of s t (level n)).op 0) (serving s t n) (At (level n))
+unfoldable pub serving : Sizes → List ℕ → ℕ → Option Level
+serving s t zero = None
+serving s t (suc n) = cond (eqb (frame_of s t (level n)).op 0) (serving s t n) (Some (level n))
 
 -- op 1 at a D point
 unfoldable pub strays : Frame → Bool
@@ -55,9 +53,9 @@ unfoldable pub step_frame : Sizes → List ℕ → Level → Frame → Out
 step_frame s t l f =
     cond (sound s f) (performed s t l f (row (point_of f.point) f l (level s.levels))) (refused 10, t)
 
-unfoldable pub step_served : Sizes → List ℕ → Served → Out
-step_served s t Nobody = (refused 9, t)
-step_served s t (At l) = step_frame s t l (counted (frame_of s t l))
+unfoldable pub step_served : Sizes → List ℕ → Option Level → Out
+step_served s t None = (refused 9, t)
+step_served s t (Some l) = step_frame s t l (counted (frame_of s t l))
 
 -- a step of a table of these sizes
 unfoldable pub step_sized : Sizes → List ℕ → Out
