@@ -1,7 +1,6 @@
 -- A listing gives no more nodes than its room has.
 use Rattle.std.specs.Prelude.{ℕ, ◌≤◌, refl, List, ◌++◌, Bool, true, false, cond, ltb, Option, Some, None}
 use Rattle.std.proofs.Math.Path.{◌≡◌, ap}
-use Rattle.std.proofs.Math.Option.{Option, none, some}
 use Rattle.std.proofs.Common.{arith}
 use Rattle.std.proofs.Math.ListN.{length, drop, length-append}
 use borrow.Author.Tests.{ltb-false}
@@ -25,9 +24,9 @@ module _ (n : ℕ) (after room : List ℕ) where
 
   listed_count : (o : Option (List ℕ)) → listed o room ≡ (says n, after) → InBoth
   unfolding listed
-  listed_count none e =
+  listed_count None e =
       let f : ◌≡◌ {A = Said ℕ} (refused 10) (says n) = ap (λ q. q.0) e in let z : ◌≡◌ {A = ℕ} 0 1 = cc in absurd (omega arith)
-  listed_count (some ns) e =
+  listed_count (Some ns) e =
       not_refused (ltb (length room) (length ns)) 12 _
       (λ b g.
       let f : says (length ns) ≡ says n = ap (λ q. q.0) g in
