@@ -4,7 +4,6 @@
 ghost use Rattle.std.specs.Prelude.{◌≡◌, map};
 ghost use Rattle.table.specs.Points.{point_of, number_of, points};
 ghost use Rattle.words.specs.Inner.{Fits};
-ghost use Rattle.table.specs.declared.After.TheVariants.{Go};
 ghost use Rattle.table.specs.Frames.{go_to, below_k_to, below_m_to};
 ghost use Rattle.table.specs.Table.{row};
 ghost use Rattle.table.specs.Turn.{loaded, stored, turned};
@@ -134,52 +133,19 @@ pub fn numbers() -> [u16; 36]
     ]
 }
 
-// What follows an access: the frame as it goes on, or the operation's end with its node, 0 for empty.
+// What follows an access: the frame as it goes on (it stays at its point, or goes to another), or the operation's end with its node, 0 for
+// empty.
 #[derive(Clone, Copy)]
 pub enum After {
     Go(Frame),
     Done(Node),
 }
 
-// The same frame, made again word by word: a compiler then keeps its words apart, where it would copy them together.
-fn apart(f: Frame) -> Frame
-    ensures { result ≡ f }
-{
-    let queue = f.queue;
-    let node = f.node;
-    let k = f.k;
-    let p = f.p;
-    let c = f.c;
-    let a = f.a;
-    let r = f.r;
-    let m = f.m;
-    Frame {
-        op: f.op,
-        point: f.point,
-        queue,
-        node,
-        k,
-        p,
-        c,
-        a,
-        r,
-        m,
-        steps: f.steps,
-    }
-}
-
-// Stay at the point.
-fn stay(f: Frame) -> After
-    ensures { result ≡ Go f }
-{
-    After::Go(apart(f))
-}
-
 // Go to the point x.
 fn go(f: Frame, x: u16) -> After
     ensures { result ≡ go_to x f }
 {
-    stay(Frame { point: x, ..f })
+    After::Go(Frame { point: x, ..f })
 }
 
 // Below k: if k is 0 go to x, else take 1 from k and go to y.
@@ -296,7 +262,7 @@ pub fn turn(t: &mut [u16], s: Sizes, l: Level, top: Level, mut f: Frame) -> Opti
             let x = load(t, s, Word::Next(c))?;
             if x != 0 {
                 f.c = Node(x);
-                Some(stay(f))
+                Some(After::Go(f))
             } else {
                 Some(go(f, Point::E9))
             }
@@ -310,7 +276,7 @@ pub fn turn(t: &mut [u16], s: Sizes, l: Level, top: Level, mut f: Frame) -> Opti
             let x = load(t, s, Word::Next(c))?;
             if x != 0 {
                 f.c = Node(x);
-                Some(stay(f))
+                Some(After::Go(f))
             } else {
                 Some(go(f, Point::E11))
             }
@@ -354,7 +320,7 @@ pub fn turn(t: &mut [u16], s: Sizes, l: Level, top: Level, mut f: Frame) -> Opti
                 Some(go(f, Point::E21))
             } else if x != 0 {
                 f.c = Node(x);
-                Some(stay(f))
+                Some(After::Go(f))
             } else if m == top {
                 Some(go(f, Point::E17))
             } else {
@@ -376,7 +342,7 @@ pub fn turn(t: &mut [u16], s: Sizes, l: Level, top: Level, mut f: Frame) -> Opti
             let x = load(t, s, Word::Next(c))?;
             if x != 0 {
                 f.c = Node(x);
-                Some(stay(f))
+                Some(After::Go(f))
             } else {
                 Some(go(f, Point::E20))
             }
@@ -400,7 +366,7 @@ pub fn turn(t: &mut [u16], s: Sizes, l: Level, top: Level, mut f: Frame) -> Opti
             let x = load(t, s, Word::Next(c))?;
             if x != 0 {
                 f.c = Node(x);
-                Some(stay(f))
+                Some(After::Go(f))
             } else {
                 Some(go(f, Point::E24))
             }

@@ -260,15 +260,24 @@ pub fn read_frame(t: &[u16], s: Sizes, l: Level) -> Frame
     }
 }
 
+// kept: word by word, since copy_from_slice puts the words on the stack first and waits for them there: 26.4 for 22.3 ns a step.
 pub fn write_frame(t: &mut [u16], s: Sizes, l: Level, f: Frame)
     requires fits { Fits s t.old }
     requires l_lt_levels { l.0 < s.levels }
     ensures { t.new ≡ put_frame s t.old l f }
 {
     let b = frame_place(s, l);
-    t[b..b + 11].copy_from_slice(&[
-        f.op, f.point, f.queue.0, f.node.0, f.k.0, f.p.0, f.c.0, f.a.0, f.r.0, f.m.0, f.steps,
-    ]);
+    t[b] = f.op;
+    t[b + 1] = f.point;
+    t[b + 2] = f.queue.0;
+    t[b + 3] = f.node.0;
+    t[b + 4] = f.k.0;
+    t[b + 5] = f.p.0;
+    t[b + 6] = f.c.0;
+    t[b + 7] = f.a.0;
+    t[b + 8] = f.r.0;
+    t[b + 9] = f.m.0;
+    t[b + 10] = f.steps;
 }
 
 // The frame of a level that runs nothing.

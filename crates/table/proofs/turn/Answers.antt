@@ -114,7 +114,7 @@ returns-in_err-x-in-8 c =
 pub returns-then-x-ne0 : goal.returns-then-x-ne0
 unfolding row if_eq walk_to
 returns-then-x-ne0 c =
-    simp (point_is point.E8 _ c.in-8.is, by_load _ _ _ _ c.in_ok-x-in-8.ensures, c.stay.ensures, ne_eqb _ _ c.if-x-ne0.true)
+    simp (point_is point.E8 _ c.in-8.is, by_load _ _ _ _ c.in_ok-x-in-8.ensures, ne_eqb _ _ c.if-x-ne0.true)
 
 -- E8, x is 0
 pub returns-else-x-ne0 : goal.returns-else-x-ne0
@@ -147,7 +147,6 @@ returns-then-x-ne0-2 c =
     simp (
       point_is point.E10 _ c.in-10.is,
       by_load _ _ _ _ c.in_ok-x-in-10.ensures,
-      c.stay-then-x-ne0-2.ensures,
       ne_eqb _ _ c.if-x-ne0-2.true,
     )
 
@@ -276,7 +275,6 @@ returns-then-x-ne0-3 c =
     simp (
       point_is point.E16 _ c.in-16.is,
       by_load _ _ _ _ c.in_ok-x-in-16.ensures,
-      c.stay-then-x-ne0-3.ensures,
       ne_eqb _ _ c.if-x-p-2.false,
       ne_eqb _ _ c.if-x-ne0-3.true,
     )
@@ -350,7 +348,6 @@ returns-then-x-ne0-4 c =
     simp (
       point_is point.E19 _ c.in-19.is,
       by_load _ _ _ _ c.in_ok-x-in-19.ensures,
-      c.stay-then-x-ne0-4.ensures,
       ne_eqb _ _ c.if-x-ne0-4.true,
     )
 
@@ -422,7 +419,6 @@ returns-then-x-ne0-5 c =
     simp (
       point_is point.E23 _ c.in-23.is,
       by_load _ _ _ _ c.in_ok-x-in-23.ensures,
-      c.stay-then-x-ne0-5.ensures,
       ne_eqb _ _ c.if-x-ne0-5.true,
     )
 

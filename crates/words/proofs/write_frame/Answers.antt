@@ -1,16 +1,15 @@
-use Rattle.std.proofs.Common.{◌+◌, ◌-◌, ℕ, ap, sym, ◌∙◌, refl, arith}
-use Rattle.std.proofs.Math.Seq.{sets}
-use Rattle.std.proofs.lemmas.Slice.{put_mid-paste}
-use Rattle.std.proofs.lemmas.List.Edits.{sets-eq}
+use Prim.Native.Nat.{ℕ}
+use mathlib.Core.Path.{◌∙◌, ap}
+use lib.Seq.{sets}
+use Rattle.words.specs.Laws.{frame_laid}
+use lib.ListN.{length-set}
 use Rattle.words.specs.Layout.{put_frame, frame_words}
 use Rattle.words.proofs.write_frame.Goals as goal
 
+pub shape_of-t : goal.shape_of-t
+unfolding put_frame
+shape_of-t c = simp length-set
+
 pub returns : goal.returns
 unfolding put_frame
-returns c =
-    let b = c.frame_place-b.result in
-    let t = c.args.t.now in
-    let ws = frame_words c.args.f in
-    put_mid-paste b (b + 11 - b) t c.copy_from_slice.new.self ws 11 c.copy_from_slice.ensures.after (omega arith) refl
-    ∙ sym (sets-eq ws t b (omega arith))
-    ∙ ap (λ (i : ℕ). sets t i ws) c.frame_place-b.ensures.is
+returns c = frame_laid c.args.t.now c.frame_place-b.result c.args.f ∙ ap (λ (b : ℕ). sets c.args.t.now b (frame_words c.args.f)) c.frame_place-b.ensures.is
