@@ -1,14 +1,18 @@
 -- What rests on where a field ends: no field stands at the end of a text, and what is read was written.
 use Rattle.std.specs.Prelude.{ℕ, suc, ◌+◌, ◌-◌, ◌≤◌, ◌<◌, ◌≡◌, refl, List, [], ◌∷◌, ◌++◌, Bool, true, false, cond, length, drop, eqb, Some, None}
 use Rattle.std.proofs.Common.{sym, ap, ◌∙◌, append_assoc, arith, drop_of_length-le, drop-drop, eqb-true}
+use Rattle.std.proofs.lemmas.Bool.Decides.{nat_tests}
 use Rattle.std.proofs.lemmas.Option.{some_pair_parts}
 use Rattle.decimals.specs.Decimals.{digits_of, field_of, is_digit, with_digit, goes_on, rest_in, rest_of, field_in, field_at}
-use Rattle.decimals.specs.Laws.{digit_is, digits_one, goes_on_is}
+use Rattle.decimals.specs.Laws.{rest_cons, field_cons, field_none, digit_is, digits_one, goes_on_is}
 use Rattle.decimals.specs.Inverse.{digits_more, Field}
 
 pub rest_none : (end : ℕ) (text : List ℕ) (n at : ℕ) → length text ≤ at → rest_of end text n at ≡ None
 unfolding rest_of rest_in
 rest_none end text n at h = rw (drop_of_length-le text {i = at} h)
+
+-- what the reading of numbers goes by
+pub ruleset reads = (rest_cons, rest_none, goes_on_is, field_cons, field_none, digit_is, nat_tests)
 
 -- the bytes after a place are what the bytes after its first are
 drop_on : (at next b : ℕ) (s : List ℕ) → suc at < next → drop (next - at) (b ∷ s) ≡ drop (next - suc at) s

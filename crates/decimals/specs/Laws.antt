@@ -101,3 +101,6 @@ width_top n = by (ltb n 10) (ltb n 100) (ltb n 1000) (ltb n 10000)
     by false false true d = omega arith
     by false false false true = omega arith
     by false false false false = omega arith
+
+-- what the writing of numbers goes by
+pub ruleset writes = (digits_one, digits_two, length_digits, length_field, last_first, last_none)

@@ -29,7 +29,7 @@ fn goes_on(v: usize, b: u8) -> bool
 }
 
 // The field whose digits before place make v.
-#[tactic(auto, using(crate::specs::Laws::rest_cons, crate::specs::Laws::goes_on_is, crate::proofs::ReadBack::rest_none, std::proofs::lemmas::Bool::Decides::nat_tests))]
+#[tactic(auto, using(crate::proofs::ReadBack::reads))]
 fn read_rest(text: &[u8], place: usize, end: u8, v: usize) -> Option<(u16, usize)>
     requires { (place ≤ length text.now) × (v ≤ 65535) }
     ensures { result ≡ rest_of end text.now v place }
@@ -46,7 +46,7 @@ fn read_rest(text: &[u8], place: usize, end: u8, v: usize) -> Option<(u16, usize
 }
 
 // The number whose digits stand at a place, with the place after the byte that ends it.
-#[tactic(auto, using(crate::specs::Laws::field_cons, crate::specs::Laws::field_none, crate::specs::Laws::digit_is, std::proofs::lemmas::Bool::Decides::nat_tests))]
+#[tactic(auto, using(crate::proofs::ReadBack::reads))]
 pub fn read_field(text: &[u8], place: usize, end: u8) -> Option<(u16, usize)>
     ensures { result ≡ field_at end text.now place }
 {
@@ -79,7 +79,7 @@ fn digit(n: usize) -> u8
 
 // Writes n's digits from place on and answers the place after them: one or two at once, as most numbers of a text
 // have no more, and more of them the last one first.
-#[tactic(auto, using(crate::specs::Laws::digits_one, crate::specs::Laws::digits_two, crate::specs::Laws::length_digits, crate::specs::Laws::last_first, crate::specs::Laws::last_none))]
+#[tactic(auto, using(crate::specs::Laws::writes))]
 pub fn write_digits(room: &mut [u8], place: usize, n: usize) -> usize
     requires { place + length (digits_of n) ≤ length room.old }
     ensures { Put result room.new room.old place (digits_of n) }
@@ -102,7 +102,7 @@ pub fn write_digits(room: &mut [u8], place: usize, n: usize) -> usize
     place + w
 }
 
-#[tactic(auto, using(crate::specs::Laws::length_field, crate::specs::Laws::length_digits))]
+#[tactic(auto, using(crate::specs::Laws::writes))]
 pub fn write_field(room: &mut [u8], place: usize, n: u16, end: u8) -> usize
     requires { place + length (field_of n end) ≤ length room.old }
     ensures { Put result room.new room.old place (field_of n end) }
