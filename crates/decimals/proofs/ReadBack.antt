@@ -21,7 +21,7 @@ drop_on at next b s h = let e : next - at ≡ suc (next - suc at) = omega arith 
 rest_reads : (end v at n next : ℕ) (s : List ℕ) → v ≤ 65535 → rest_in end v at s ≡ Some (n, next)
     → Field n end at next (digits_of v ++ s) (drop (next - at) s)
 unfolding rest_in field_of
-rest_reads end v at n next [] small e = let z : ◌≡◌ {A = ℕ} 0 1 = cc in absurd (omega arith)
+rest_reads end v at n next [] small e = cc
 rest_reads end v at n next (b ∷ s) small e =
     by (goes_on v b) refl (eqb b end) refl e (rest_reads end (with_digit v b) (suc at) n next s)
   where
@@ -47,11 +47,11 @@ rest_reads end v at n next (b ∷ s) small e =
         let e : b ≡ end = eqb-true b end f in
         let o : next - at ≡ 1 = omega arith in
         record { small = omega arith; on = omega arith; is = rw (o, m, e) (sym (append_assoc (digits_of n) (end ∷ []) s)) }
-    by false g false f h ih = let z : ◌≡◌ {A = ℕ} 0 1 = cc in absurd (omega arith)
+    by false g false f h ih = cc
 
 field_in_reads : (end at n next : ℕ) (s : List ℕ) → field_in end at s ≡ Some (n, next) → Field n end at next s (drop (next - at) s)
 unfolding field_in
-field_in_reads end at n next [] e = let z : ◌≡◌ {A = ℕ} 0 1 = cc in absurd (omega arith)
+field_in_reads end at n next [] e = cc
 field_in_reads end at n next (b ∷ s) e = by (is_digit b) refl e
   where
     by : (g : Bool) → is_digit b ≡ g → cond g (rest_in end (b - 48) (suc at) s) None ≡ Some (n, next)
@@ -68,7 +68,7 @@ field_in_reads end at n next (b ∷ s) e = by (is_digit b) refl e
               ∙ r.is
               ∙ ap (λ (l : List ℕ). field_of n end ++ l) (sym (drop_on at next b s r.on));
         }
-    by false g h = let z : ◌≡◌ {A = ℕ} 0 1 = cc in absurd (omega arith)
+    by false g h = cc
 
 -- a field that is read is the number's digits and the byte that ends it
 pub field_reads : (end : ℕ) (text : List ℕ) (at n next : ℕ) → field_at end text at ≡ Some (n, next)

@@ -92,7 +92,7 @@ event_reads text place next e k =
     by false false false f g h k = absurd (none-some (e, next) k)
 
 not_wrong : {A : Type 0} (text : List ℕ) (place : ℕ) (x : A) → wrong_at text place ≡ gives x → ⊥
-not_wrong text place x e = let z : ◌≡◌ {A = ℕ} 0 1 = cc in omega arith
+not_wrong text place x e = cc
 
 cond_is : {A : Type 0} (t : Bool) (a : Answer A) (text : List ℕ) (place : ℕ) (x : A) → cond t a (wrong_at text place) ≡ gives x
     → (t ≡ true) × (a ≡ gives x)

@@ -46,11 +46,11 @@ event_of text place x h = by (event_reading text place) h
     of : (e : Event) (next : ℕ) → operation_of text place e next ≡ gives x → ◌≡◌ {A = Answer (Event × ℕ)} (gives (e, next)) (gives x)
     of (Enqueue l q n) next g = g
     of (Dequeue l q) next g = g
-    of (Steps count) next g = let z : ◌≡◌ {A = ℕ} 0 1 = cc in absurd (omega arith)
+    of (Steps count) next g = cc
 
     by : (a : Answer (Event × ℕ)) → onto a (λ e. operation_of text place e.0 e.1) ≡ gives x → a ≡ gives x
     by (gives y) g = of y.0 y.1 g
-    by (refuses n v) g = let z : ◌≡◌ {A = ℕ} 0 1 = cc in absurd (omega arith)
+    by (refuses n v) g = cc
 
 -- ---- the words
 
@@ -145,7 +145,7 @@ stops {A} {B} {C} {D} (gives x) f g k n v h = at_second (f x) h
   where
     at_third : (y : B) (c : Answer C) → onto c (λ _. gives x) ≡ refuses n v → onto c (λ _. k x y) ≡ refuses n v
     at_third y (refuses m w) i = let p : m ≡ n = cc in let q : w ≡ v = cc in rw (p, q)
-    at_third y (gives z) i = let p : ◌≡◌ {A = ℕ} 0 1 = cc in absurd (omega arith)
+    at_third y (gives z) i = cc
 
     at_second : (b : Answer B) → onto (onto b g) (λ _. gives x) ≡ refuses n v
         → onto b (λ y. onto (g y) (λ _. k x y)) ≡ refuses n v
@@ -186,7 +186,7 @@ sixth {A} n x y h = by (leb n 6) refl h
   where
     by : (t : Bool) → leb n 6 ≡ t → cond t (gives x) (refuses 14 []) ≡ gives y → (◌≡◌ {A = Answer A} (gives x) (gives y)) × (n ≤ 6)
     by true e g = (g, leb-true n 6 e)
-    by false e g = let z : ◌≡◌ {A = ℕ} 0 1 = cc in absurd (omega arith)
+    by false e g = cc
 
 same_events : (o p : Opening) → o ≡ p → o.events ≤ 6 → p.events ≤ 6
 same_events o p e h = rw (sym e) h
@@ -221,11 +221,11 @@ four_words text place x h = by (event_reading text place) h
     of : (e : Event) (next : ℕ) → operation_of text place e next ≡ gives x → length (words_of x.0) ≡ 4
     of (Enqueue l q n) next g = let d = given_is (Enqueue l q n) x.0 next x.1 g in rw (sym d.0)
     of (Dequeue l q) next g = let d = given_is (Dequeue l q) x.0 next x.1 g in rw (sym d.0)
-    of (Steps count) next g = let z : ◌≡◌ {A = ℕ} 0 1 = cc in absurd (omega arith)
+    of (Steps count) next g = cc
 
     by : (a : Answer (Event × ℕ)) → onto a (λ e. operation_of text place e.0 e.1) ≡ gives x → length (words_of x.0) ≡ 4
     by (gives y) g = of y.0 y.1 g
-    by (refuses n v) g = let z : ◌≡◌ {A = ℕ} 0 1 = cc in absurd (omega arith)
+    by (refuses n v) g = cc
 
 four_each : (k : ℕ) (text : List ℕ) (place : ℕ) (es : List Event) (end : ℕ) → operations_reading k text place ≡ gives (es, end)
     → length (all_words es) ≡ 4 * k
@@ -287,4 +287,4 @@ task_read text ops after o h e = by (task_reading text) refl e
         of x.0 x.1 f (given_opening x.0 o said) words
     by (refuses n v) f g =
         let i : ◌≡◌ {A = Answer Opening} (refuses n v) (gives o) = ap (λ (u : Answer Opening × List ℕ). u.0) g in
-        let z : ◌≡◌ {A = ℕ} 0 1 = cc in absurd (omega arith)
+        cc

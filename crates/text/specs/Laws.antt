@@ -55,7 +55,7 @@ onto_onto (refuses n v) f g = refl
 
 pub onto_is : {A B : Type 0} (a : Answer A) (f : A → Answer B) (b : B) → onto a f ≡ gives b → (x : A) × (a ≡ gives x) × (f x ≡ gives b)
 onto_is (gives x) f b e = (x, refl, e)
-onto_is (refuses n v) f b e = let z : ◌≡◌ {A = ℕ} 0 1 = cc in absurd (omega arith)
+onto_is (refuses n v) f b e = cc
 
 pub given_is : {A B : Type 0} (a c : A) (b d : B) → ◌≡◌ {A = Answer (A × B)} (gives (a, b)) (gives (c, d)) → (a ≡ c) × (b ≡ d)
 given_is {A} {B} a c b d e =

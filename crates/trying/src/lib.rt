@@ -18,7 +18,7 @@ use loglines::Pen;
 use outcomes::Written;
 use std::env::{Env, FillError};
 use tasks::TaskError;
-use text::{BadLine, Opening};
+use text::Opening;
 use tries::{Number, Tried};
 
 // What is asked for: the schedules, so many at most; the outcomes; or nothing that is known.
@@ -159,7 +159,7 @@ pub fn write_schedules(text: &[u8], bound: u32, room: &mut [u8]) -> Answer
             let n = 4 * words::wide(o.events);
             list_schedules(o, &ops[..n], bound, room)
         }
-        Err(TaskError::Line(BadLine(line))) => tell_wrong(line, room),
+        Err(TaskError::Line(bad)) => tell_wrong(bad.0, room),
         Err(TaskError::TooMany) => tell_refused(14, room),
     }
 }
@@ -187,7 +187,7 @@ pub fn write_outcomes(text: &[u8], room: &mut [u8]) -> Answer
             let n = 4 * words::wide(o.events);
             count_schedules(o, &ops[..n], room)
         }
-        Err(TaskError::Line(BadLine(line))) => tell_wrong(line, room),
+        Err(TaskError::Line(bad)) => tell_wrong(bad.0, room),
         Err(TaskError::TooMany) => tell_refused(14, room),
     }
 }

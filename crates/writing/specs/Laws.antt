@@ -48,8 +48,8 @@ event_told words at next e h =
     by true y z t f g h i k = let (d, p) = some_pair_parts _ e (at + 4) next k in enqueued (f refl) p d
     by false true z t f g h i k = let (d, p) = some_pair_parts _ e (at + 3) next k in dequeued (g refl) p d
     by false false true true f g h i k = let (d, p) = some_pair_parts _ e (at + 2) next k in stepped (h refl) p (i refl) d
-    by false false true false f g h i k = let z : ◌≡◌ {A = ℕ} 0 1 = cc in absurd (omega arith)
-    by false false false t f g h i k = let z : ◌≡◌ {A = ℕ} 0 1 = cc in absurd (omega arith)
+    by false false true false f g h i k = cc
+    by false false false t f g h i k = cc
 
 -- the words of an event are among the words
 pub event_on : (words : List ℕ) (at next : ℕ) (e : Event) → event_in words at ≡ Some (e, next) → next ≤ length words
@@ -97,7 +97,7 @@ lines_none (suc k) words at h = absurd (omega arith)
 pub found_is : (line : ℕ) (r : Option (Event × ℕ)) (e : Event) (next : ℕ) → found line r ≡ gives (e, next) → r ≡ Some (e, next)
 unfolding found no_text
 found_is line (Some (d, p)) e next h = let x = given_is d e p next h in rw (x.0, x.1)
-found_is line None e next h = let z : ◌≡◌ {A = ℕ} 0 1 = cc in absurd (omega arith)
+found_is line None e next h = cc
 
 -- the lines are those of the events
 told_lines : (k line : ℕ) (words : List ℕ) (at : ℕ) (es : List Event) → events_in k line words at ≡ gives es → lines_in k words at ≡ events_text es
@@ -163,7 +163,7 @@ saying words o es h = by (leb 4 (length words)) refl h
         let a = onto_is (events_in (opening_in words).events 6 words 4) _ (o, es) k in
         let x = given_is (opening_in words) o a.0 es a.2 in
         record { enough = leb-true 4 (length words) f; opening = x.0; events = a.1 ∙ ap (λ (l : List Event). gives l) x.1 }
-    by false f k = let z : ◌≡◌ {A = ℕ} 0 1 = cc in absurd (omega arith)
+    by false f k = cc
 
 pub record Fitting (s t : List ℕ) : Type 0 where
   pub is : s ≡ t
@@ -175,7 +175,7 @@ fitting_is s t h = by (leb (length s) longest) refl h
   where
     by : (b : Bool) → leb (length s) longest ≡ b → cond b (gives s) (no_text 0) ≡ gives t → Fitting s t
     by true f h = record { is = cc; short = leb-true (length s) longest f }
-    by false f h = let z : ◌≡◌ {A = ℕ} 0 1 = cc in absurd (omega arith)
+    by false f h = cc
 
 -- what a length that was measured says
 pub record Ready (words : List ℕ) (n : ℕ) : Type 0 where
@@ -226,7 +226,7 @@ unfolding writing into_room measuring
 has_none words room number values h = by (text_in words) h
   where
     by : (t : Answer (List ℕ)) → onto t (λ s. gives (length s)) ≡ refuses number values → into_room room t ≡ (refuses number values, room)
-    by (gives s) k = let z : ◌≡◌ {A = ℕ} 0 1 = cc in absurd (omega arith)
+    by (gives s) k = cc
     by (refuses n vs) k =
         let a : n ≡ number = cc in
         let b : vs ≡ values = cc in
