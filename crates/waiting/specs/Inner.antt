@@ -5,7 +5,6 @@ use Rattle.words.specs.declared.Queue.{Queue}
 use Rattle.words.specs.declared.Sizes.{Sizes}
 use Rattle.words.specs.Layout.{level, measured}
 use Rattle.words.specs.Inner.{Fits}
-use Rattle.steps.specs.declared.Served.TheVariants.{At}
 use Rattle.steps.specs.Step.{serving}
 use Rattle.conditions.specs.Conditions.{no_queue, dequeued}
 
@@ -25,7 +24,7 @@ pub record Alone (s : Sizes) (t : List ℕ) (l : Level) (q : Queue) : Type 0 whe
 -- and a dequeue runs there
 pub record Runs (s : Sizes) (t : List ℕ) (l : Level) (q : Queue) : Type 0 where
   pub alone : Alone s t l q
-  pub serves : serving s t s.levels ≡ At l
+  pub serves : serving s t s.levels ≡ Some l
 
 -- as many of the steps left as one run can be given
 unfoldable pub piece : ℕ → ℕ

@@ -18,6 +18,7 @@ const COPY: usize = 2289;
 const SMALL: usize = 256;
 
 // As many of the steps left as one run can be given.
+#[tactic(auto, using(std::proofs::lemmas::Bool::Decides::nat_tests), unfolding(crate::specs::Inner::piece))]
 fn run_budget(left: usize) -> u16
     ensures { result ≡ piece left }
 {
@@ -52,6 +53,7 @@ fn drain(t: &mut [u16], s: Sizes, l: Level, q: Queue, steps: usize) -> Result<u3
 }
 
 // (L + 3) × (N + 7) × (N + 1)
+#[tactic(auto, using(crate::specs::Laws::each_few, crate::specs::Laws::all_few))]
 fn drain_steps(s: Sizes) -> usize
     requires { (s.levels ≤ 16) × (s.nodes ≤ 1024) }
     ensures { result ≡ drain_steps s }
@@ -60,6 +62,7 @@ fn drain_steps(s: Sizes) -> usize
 }
 
 // On a copy that is lent.
+#[tactic(auto, using(crate::specs::Laws::ready_small, crate::specs::Laws::raised_alone, crate::specs::Laws::raised_rests, crate::specs::Laws::all_few, words::specs::Laws::measured_limits))]
 fn count_on(t: &[u16], s: Sizes, q: Queue, copy: &mut [u16]) -> Result<u32, Refusal>
     requires ready { Ready s t.now q }
     requires copy_len { length copy.old ≡ words (taller s) }
@@ -79,13 +82,14 @@ fn count_on(t: &[u16], s: Sizes, q: Queue, copy: &mut [u16]) -> Result<u32, Refu
 fn count_in<const W: usize>(t: &[u16], s: Sizes, q: Queue, n: usize) -> Result<u32, Refusal>
     requires ready { Ready s t.now q }
     requires n_value { n ≡ words (taller s) }
-    requires room { n ≤ W }
+    requires room { (n ≤ W) × (W < 65536) }
     ensures { waiting_in s t.now q ≡ answer_says result }
 {
     let mut room = [0u16; W];
     count_on(t, s, q, &mut room[..n])
 }
 
+#[tactic(auto, using(crate::specs::Laws::ready_small, crate::specs::Laws::taller_small, crate::specs::Laws::taller_words))]
 fn count_waiting(t: &[u16], s: Sizes, q: Queue) -> Result<u32, Refusal>
     requires { Ready s t.now q }
     ensures { waiting_in s t.now q ≡ answer_says result }
@@ -98,6 +102,7 @@ fn count_waiting(t: &[u16], s: Sizes, q: Queue) -> Result<u32, Refusal>
     }
 }
 
+#[tactic(auto, using(words::specs::Laws::measured_fits, words::specs::Laws::measured_limits), unfolding(crate::specs::Waiting::waiting_sized))]
 fn waiting_sized(t: &[u16], s: Sizes, q: Queue) -> Result<u32, Refusal>
     requires { measured t.now ≡ Some s }
     ensures { waiting_sized s t.now q ≡ answer_says result }
@@ -112,6 +117,7 @@ fn waiting_sized(t: &[u16], s: Sizes, q: Queue) -> Result<u32, Refusal>
 }
 
 // How many nodes dequeues of the queue would return now, begun one after another above all levels.
+#[tactic(auto, unfolding(crate::specs::Waiting::waiting_of, crate::specs::Waiting::waiting_measured))]
 pub fn waiting(t: &[u16], q: Queue) -> Result<u32, Refusal>
     ensures { waiting_of t.now q ≡ answer_says result }
 {
