@@ -66,6 +66,10 @@ one_answer (Ok x) (Err r) e = cc
 one_answer (Err r) (Ok y) e = cc
 one_answer (Err r) (Err q) e = let n : number r ≡ number q = cc in ap (λ z. Err z) (one_refusal r q n)
 
+-- of `quiet` and `waiting`, which only read
+pub one_read : {A : Type 0} {x : Said A} {a b : Result A Refusal} → x ≡ answer_says a → x ≡ answer_says b → a ≡ b
+one_read p q = once_read answer_says one_answer p q
+
 pub one_step : (a b : Result (Option End) Refusal) → step_says a ≡ step_says b → a ≡ b
 one_step (Ok None) (Ok None) e = refl
 one_step (Ok None) (Ok (Some y)) e = cc
