@@ -8,7 +8,7 @@ use Rattle.answers.specs.declared.Why.{Why}
 use Rattle.answers.specs.declared.Why.TheVariants as why
 use Rattle.answers.specs.declared.Refusal.{Refusal}
 use Rattle.answers.specs.declared.Refusal.TheVariants as refusal
-use Rattle.answers.specs.Said.{number, answer_says, step_says, why_says, run_says}
+use Rattle.answers.specs.Said.{Said, number, answer_says, step_says, why_says, run_says}
 
 -- of a call that only reads, whatever it answers
 pub once_read : {A S : Type 0} (say : A → S) → ((a b : A) → say a ≡ say b → a ≡ b) → {x : S} {a b : A} → x ≡ say a → x ≡ say b → a ≡ b
