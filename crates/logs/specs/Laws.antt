@@ -1,5 +1,5 @@
 -- What the proofs of the log cite.
-use Rattle.std.specs.Prelude.{ℕ, zero, suc, ◌+◌, ◌-◌, ◌≤◌, ◌<◌, Bool, true, false, Option, Some, None, cond, take, drop, replicate, ltb}
+use Rattle.std.specs.Prelude.{ℕ, zero, suc, ◌+◌, ◌≤◌, ◌<◌, Bool, true, false, Option, Some, None, cond, take, drop, replicate, ltb}
 use Rattle.std.proofs.Math.Path.{◌≡◌, refl, sym, ap}
 use Rattle.std.proofs.Common.{◌∙◌, arith, add-one, add-zero, append-nil, append_assoc, length-append}
 use mathlib.Core.List.{List, [], ◌∷◌, ◌++◌}
@@ -16,7 +16,7 @@ use Rattle.schedule.specs.Whole.{events_reading, schedule_reading, rest_reading,
 use Rattle.asks.specs.Listing.{listing_of}
 use Rattle.loglines.specs.Lines.{text_line, sizes_line, queue_line, unquiet_line}
 use Rattle.loglines.specs.declared.Pen.{Pen}
-use Rattle.loglines.specs.Ink.{Page, page, ink, Writes}
+use Rattle.loglines.specs.Ink.{Page, ink, Writes}
 use Rattle.loglines.specs.Laws.{ink_then, ink_all, writes_none, writes_then}
 use Rattle.fresh.specs.Fresh.{fresh_of}
 use Rattle.play.specs.Parts.{into, at_place}

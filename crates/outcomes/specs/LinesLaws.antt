@@ -6,7 +6,6 @@ use borrow.Author.Tests.{lt-ltb, le-ltb, eq-eqb, ne_eqb}
 use Rattle.loglines.specs.declared.Pen.{Pen}
 use Rattle.loglines.specs.Ink.{Page, ink, Writes}
 use Rattle.loglines.specs.Laws.{ink_then, writes_then}
-use Rattle.outcomes.specs.declared.Written.{Written}
 use Rattle.outcomes.specs.Outcomes.{mark}
 use Rattle.outcomes.specs.Tallies.{known_in}
 use Rattle.outcomes.specs.Lines.{

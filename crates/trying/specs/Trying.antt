@@ -5,7 +5,7 @@ use Rattle.answers.specs.Said.{Said, refused, says}
 use Rattle.text.specs.declared.Opening.{Opening}
 use Rattle.text.specs.declared.Event.{Event}
 use Rattle.text.specs.Answer as answer
-use Rattle.loglines.specs.Ink.{Page, ink}
+use Rattle.loglines.specs.Ink.{ink}
 use Rattle.loglines.specs.Lines.{text_line, refusal_line}
 use Rattle.tasks.specs.Tasks.{task_reading, all_words}
 use Rattle.outcomes.specs.Lines.{counted_text}
