@@ -2,7 +2,7 @@
 // Runs each schedule of the packed corpus: a header with the title and the schedule's length, and the schedule.
 ghost use Rattle.std.specs.Prelude.{◌≤◌, IfOk};
 
-use logs::{Kind, Logged};
+use logs::Kind;
 use std::io;
 
 // What stands before a schedule: 41 bytes of title, a space, the schedule's length in five digits, and LF.
@@ -73,16 +73,10 @@ impl Desk {
         requires { n ≤ 65537 }
     {
         let text = &self.text[..n];
-        let Logged::Bytes(m) = logs::write_log(Kind::Plain, text, &mut self.table, &mut self.room)
-        else {
+        let Ok(m) = logs::write_log(Kind::Plain, text, &mut self.table, &mut self.room) else {
             return Ok(false);
         };
-        let Logged::Bytes(n) = logs::write_log(
-            Kind::Bounds,
-            text,
-            &mut self.table,
-            &mut self.second,
-        ) else {
+        let Ok(n) = logs::write_log(Kind::Bounds, text, &mut self.table, &mut self.second) else {
             return Ok(false);
         };
         let log = &self.room[..m];

@@ -4,7 +4,7 @@ use Rattle.logs.specs.Laws.{log_within}
 use Rattle.corpus.proofs.Desk.write_logs.Goals as goal
 
 pub shared_ref_as_front-log : goal.shared_ref_as_front-log
-shared_ref_as_front-log c = let within = log_within _ _ _ _ _ _ _ c.in-Bytes.ensures in omega arith
+shared_ref_as_front-log c = let within = log_within _ _ _ _ _ _ _ c.in-Ok.ensures in omega arith
 
 pub shared_ref_as_front-agree : goal.shared_ref_as_front-agree
-shared_ref_as_front-agree c = let within = log_within _ _ _ _ _ _ _ c.in-Bytes-write_log.ensures in omega arith
+shared_ref_as_front-agree c = let within = log_within _ _ _ _ _ _ _ c.in-Ok-write_log.ensures in omega arith
