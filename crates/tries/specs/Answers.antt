@@ -1,6 +1,6 @@
 -- What the proofs of the public calls cite.
 use Prim.Native.Nat.{ℕ, zero, suc, ◌≤◌, ◌<◌, ◌/◌}
-use Rattle.std.specs.Prelude.{◌≡◌, Bool, true, false, cond, ◌&&◌, length, replicate, take, drop, ltb}
+use Rattle.std.specs.Prelude.{◌≡◌, Bool, true, false, cond, ◌&&◌, length, replicate, take, drop, ltb, Option}
 use Rattle.std.proofs.Math.Path.{refl, ap}
 use Rattle.std.proofs.Common.{sym, ◌∙◌, arith}
 use Rattle.std.proofs.Math.Bool.{and-eq-true_iff}
@@ -17,7 +17,6 @@ use Rattle.fresh.specs.Fresh.{cleared, ended, fresh_table, fresh_of}
 use Rattle.fresh.specs.Laws.{fresh_measured, fresh_frame}
 use Rattle.steps.specs.declared.Served.TheVariants.{Nobody}
 use Rattle.steps.specs.Step.{serving, step_served, step_sized}
-use Rattle.ways.specs.declared.Tail.{Tail}
 use Rattle.ways.specs.Schedules.{ops_in, Tried, stepped, by_step, by_begin, both, most_moves, fresh, schedules}
 use Rattle.ways.specs.Forced.{end_in, TableOf}
 use Rattle.ways.specs.Calls.{stepped_is}
@@ -104,14 +103,14 @@ words_fit s h =
 -- ---- all of them
 
 module _ (a : Asked) (ws room ts : List ℕ) where
-  pub list_none : (t path : List ℕ) (x : Tail) (out : State) → a.operations ≡ 0 → t ≡ fresh (sizes_of a) → end_in most_moves 0 t ≡ x
+  pub list_none : (t path : List ℕ) (x : Option ℕ) (out : State) → a.operations ≡ 0 → t ≡ fresh (sizes_of a) → end_in most_moves 0 t ≡ x
       → tailed a ws (take a.operations path) x (none, (room, ts)) ≡ out → listed_of a ws room ts ≡ out
   unfolding listed_of schedules
   list_none t path x out h e f g =
       ap (λ (k : ℕ). listing a ws [] 0 (both most_moves (fresh (sizes_of a)) (ops_in k ws 0)) (none, (room, ts))) h
       ∙ ap (λ (u : List ℕ). listing a ws [] 0 (both most_moves u (ops_in 0 ws 0)) (none, (room, ts))) (sym e)
       ∙ tail_is a ws [] most_moves 0 t (none, (room, ts))
-      ∙ ap (λ (y : Tail). tailed a ws [] y (none, (room, ts))) f
+      ∙ ap (λ (y : Option ℕ). tailed a ws [] y (none, (room, ts))) f
       ∙ ap (λ (k : ℕ). tailed a ws (take k path) x (none, (room, ts))) (sym h)
       ∙ g
 
