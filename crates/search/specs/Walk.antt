@@ -41,6 +41,11 @@ is_going Going = true
 is_going Cut = false
 is_going Full = false
 
+abbrev pub is_full : Stop → Bool
+is_full Going = false
+is_full Cut = false
+is_full Full = true
+
 abbrev pub shut : Stop → Listed → Listed
 shut x l = record { count = l.count; at = l.at; stop = x }
 
@@ -118,5 +123,5 @@ Exploring words t copy ws a at =
     × (t ≤ words)
     × (words ≤ 2276)
 
-abbrev pub Listable : ℕ → ℕ → ℕ → Asked → Type 0
-Listable t copy ws a = (limits (sizes_of a) ≡ true) × (t ≡ words (sizes_of a)) × (copy ≡ t) × Given ws a
+abbrev pub Listable : ℕ → Asked → Type 0
+Listable ws a = (limits (sizes_of a) ≡ true) × Given ws a
