@@ -7,15 +7,15 @@ use Rattle.std.proofs.Math.Bool.{true, false}
 use mathlib.Core.List.{List, [], ◌∷◌, ◌++◌, append_assoc}
 use native.Mathlib.Omega.{arith}
 use Rattle.std.proofs.Math.Numerals.{sub-one}
-use Rattle.words.specs.Layout.{agrees}
-use Rattle.words.specs.Laws.{and_true, measured_agrees, measured_fits}
+use Rattle.words.specs.Layout.{words}
+use Rattle.words.specs.Laws.{measured_fits}
 use Rattle.ways.specs.declared.Op.{Op}
 use Rattle.ways.specs.Schedules.{op_in, ops_in, Move, step, begin, Tried, begun, stepped, idle, ending, after, by_step, by_begin, both}
 use Rattle.ways.specs.Forced.{end_in, stretched, gone_on, last_in, TableOf}
 use Rattle.ways.specs.Stretches.{stretch_low}
 use Rattle.entries.specs.Texts.{counts}
 use Rattle.search.specs.declared.Asked.{Asked}
-use Rattle.search.specs.Walk.{sizes_of, State, is_going, emitted, tailed, listing, Roomy}
+use Rattle.search.specs.Walk.{sizes_of, State, is_going, emitted, tailed, listing}
 
 -- one count more
 pub count_more : (path : List ℕ) (i n : ℕ) → i < length path → take (i + 1) (set path i n) ≡ take i path ++ (n ∷ [])
@@ -25,11 +25,8 @@ pub last_path : (path : List ℕ) (i n k : ℕ) → k ≡ i + 1 → i < length p
 last_path path i n k e h = ap (λ (j : ℕ). take j (set path i n)) e ∙ count_more path i n h
 
 -- a copy of the table has the words that an outcome's table takes
-pub copied : (a : Asked) (t : List ℕ) (copy : ℕ) → TableOf (sizes_of a) t → copy ≡ length t → Roomy copy a
-unfolding agrees
-copied a t copy m e =
-    let agree = (measured_agrees t (sizes_of a) m).1 in
-    ((and_true _ _ (and_true _ _ agree).0).0, omega (arith, e, (measured_fits t (sizes_of a) m).room))
+pub copied : (a : Asked) (t : List ℕ) (copy : ℕ) → TableOf (sizes_of a) t → copy ≡ length t → words (sizes_of a) ≤ copy
+copied a t copy m e = omega (arith, e, (measured_fits t (sizes_of a) m).room)
 
 module _ (a : Asked) (ws : List ℕ) where
   abbrev L : List ℕ → ℕ → List (List Move) → State → State

@@ -1,5 +1,5 @@
 -- The schedules listed one after another, as the explorers do it.
-use Rattle.std.specs.Prelude.{ℕ, ◌+◌, ◌*◌, ◌≤◌, ◌≡◌, Bool, true, false, cond, List, [], ◌∷◌, ◌++◌, leb, eqb, length, Option, Some, None}
+use Rattle.std.specs.Prelude.{ℕ, ◌+◌, ◌*◌, ◌≤◌, ◌<◌, ◌≡◌, Bool, true, false, cond, List, [], ◌∷◌, ◌++◌, leb, eqb, length, Option, Some, None}
 use Rattle.std.proofs.lemmas.List.Edits.{sets}
 use Rattle.words.specs.declared.Sizes.{Sizes}
 use Rattle.words.specs.Layout.{limits, words}
@@ -95,12 +95,9 @@ asks w a =
 
 -- ---- what our own functions ask of each other, by the lengths of the table, of its copy and of the operations' words
 
+-- the sizes are within the limits, and at most six operations have their words
 abbrev pub Given : ℕ → Asked → Type 0
-Given ws a = (a.operations ≤ 6) × (4 * a.operations ≤ ws)
-
--- the copy has the words of a table
-abbrev pub Roomy : ℕ → Asked → Type 0
-Roomy copy a = (limits (sizes_of a) ≡ true) × (words (sizes_of a) ≤ copy)
+Given ws a = (limits (sizes_of a) ≡ true) × (a.operations ≤ 6) × (4 * a.operations ≤ ws)
 
 -- what is lent stays what it is, and as long as it is
 pub record Kept (x y : Listing) : Type 0 where
@@ -111,17 +108,7 @@ pub record Kept (x y : Listing) : Type 0 where
   pub same_room : y.room.ghost_name ≡ x.room.ghost_name
   pub same_tallies : y.tallies.ghost_name ≡ x.tallies.ghost_name
 
--- operation i is the next of rest that remain, n steps were taken since the last begin, and a table is saved in so many words
-abbrev pub Exploring : ℕ → ℕ → ℕ → ℕ → Asked → Spot → Type 0
-Exploring words t copy ws a at =
-    (at.i + at.rest ≡ a.operations)
-    × (1 ≤ at.rest)
-    × (a.operations ≤ 6)
-    × (4 * a.operations ≤ ws)
-    × (at.n + at.left ≤ 65535)
-    × (copy ≡ t)
-    × (t ≤ words)
-    × (words ≤ 2276)
-
-abbrev pub Listable : ℕ → Asked → Type 0
-Listable ws a = (limits (sizes_of a) ≡ true) × Given ws a
+-- operation i is the next, n steps were taken since the last begin, and a table is saved in so many words
+abbrev pub Exploring : ℕ → ℕ → ℕ → Asked → Spot → Type 0
+Exploring words t copy a at =
+    (at.i < a.operations) × (at.n + at.left ≤ 65535) × (copy ≡ t) × (t ≤ words) × (words ≤ 2276)

@@ -2,7 +2,8 @@
 // with the moves that remain falling. Where there is a choice the table is saved by value.
 #![tactic(auto)]
 
-ghost use Rattle.std.specs.Prelude.{◌≡◌, true, ◌+◌, ◌≤◌, ◌<◌, length, take, leb};
+ghost use Rattle.std.specs.Prelude.{◌≡◌, true, ◌+◌, ◌-◌, ◌≤◌, ◌<◌, length, take, leb};
+ghost use Rattle.words.specs.Layout.{words};
 ghost use Rattle.ways.specs.Schedules.{op_in, ops_in, begun, by_step, by_begin};
 ghost use Rattle.ways.specs.Forced.{TableOf};
 ghost use Rattle.search.specs.declared.What.TheVariants.{Measure, Write};
@@ -18,7 +19,6 @@ ghost use Rattle.search.specs.Walk.{
   state_of,
   Kept,
   Given,
-  Roomy,
   Exploring,
 };
 
@@ -70,19 +70,19 @@ pub struct Listing<'a> {
     pub tallies: &'a mut [u64],
 }
 
-// What is asked of which operations, four words each.
+// What is asked of which operations, four words each: at most six, on a table of sizes within the limits.
 #[derive(Clone, Copy)]
 pub struct Search<'a> {
     pub asked: Asked,
     pub ops: &'a [u16],
+    ghost fits: { Given (length ops.now) asked },
 }
 
-// Where a search stands: operation i is the next of rest that remain, so many moves are left, n steps were taken since the last begin, and
-// the path has the counts of steps before those that have begun.
+// Where a search stands: operation i is the next, so many moves are left, n steps were taken since the last begin, and the path has the
+// counts of steps before those that have begun.
 #[derive(Clone, Copy)]
 pub struct Spot {
     pub i: usize,
-    pub rest: usize,
     pub left: u16,
     pub n: u16,
     pub path: [u16; 7],
@@ -153,7 +153,7 @@ impl Listed {
 impl Search<'_> {
     // One schedule more, whose text is measured only.
     fn measure(&self, path: [u16; 7], out: &mut Listing<'_>)
-        requires { Given (length self.now.ops.now) self.now.asked × (out.old.listed.count < self.now.asked.bound) }
+        requires { out.old.listed.count < self.now.asked.bound }
         ensures value { state_of out.new ≡ entered self.now.asked self.now.ops.now path Measure (state_of out.old) }
         ensures kept { Kept out.old out.new }
     {
@@ -168,7 +168,7 @@ impl Search<'_> {
 
     // One schedule more, whose text is written.
     fn write(&self, path: [u16; 7], out: &mut Listing<'_>)
-        requires { Given (length self.now.ops.now) self.now.asked × (out.old.listed.count < self.now.asked.bound) }
+        requires { out.old.listed.count < self.now.asked.bound }
         ensures value { state_of out.new ≡ entered self.now.asked self.now.ops.now path Write (state_of out.old) }
         ensures kept { Kept out.old out.new }
     {
@@ -186,7 +186,7 @@ impl Search<'_> {
 
     // One schedule more: its counts are the first of the path, one more than there are operations.
     fn emit(&self, path: [u16; 7], out: &mut Listing<'_>)
-        requires { Given (length self.now.ops.now) self.now.asked × Roomy (length out.old.copy.now) self.now.asked }
+        requires { words (sizes_of self.now.asked) ≤ length out.old.copy.now }
         ensures value { emitted self.now.asked self.now.ops.now (take (self.now.asked.operations + 1) path) (state_of out.old)
             ≡ state_of out.new }
         ensures kept { Kept out.old out.new }
@@ -219,7 +219,7 @@ impl Search<'_> {
 
     // All operations have begun, and so many steps follow: one schedule, or none where they do not end.
     pub fn emit_tail(&self, tail: Option<u16>, path: [u16; 7], out: &mut Listing<'_>)
-        requires { Given (length self.now.ops.now) self.now.asked × Roomy (length out.old.copy.now) self.now.asked }
+        requires { words (sizes_of self.now.asked) ≤ length out.old.copy.now }
         ensures value { tailed self.now.asked self.now.ops.now (take self.now.asked.operations path) tail (state_of out.old)
             ≡ state_of out.new }
         ensures kept { Kept out.old out.new }
@@ -235,10 +235,10 @@ impl Search<'_> {
     // is tried on the copy before the step, so that nothing has to be saved.
     #[cycle(explore)]
     pub fn explore_step<const N: usize>(&self, t: &mut [u16], at: Spot, out: &mut Listing<'_>)
-        requires exploring { Exploring N (length t.old) (length out.old.copy.now) (length self.now.ops.now) self.now.asked at }
+        requires exploring { Exploring N (length t.old) (length out.old.copy.now) self.now.asked at }
         requires table_of { TableOf (sizes_of self.now.asked) t.old × ((begun (op_in self.now.ops.now at.i) t.old).0 ≡ true) }
         ensures value { listing self.now.asked self.now.ops.now (take at.i at.path) at.n
-            (by_step at.left t.old (ops_in at.rest self.now.ops.now at.i)) (state_of out.old) ≡ state_of out.new }
+            (by_step at.left t.old (ops_in (self.now.asked.operations - at.i) self.now.ops.now at.i)) (state_of out.old) ≡ state_of out.new }
         ensures kept { Kept out.old out.new }
     {
         if !out.listed.is_open() {
@@ -255,7 +255,7 @@ impl Search<'_> {
             n: at.n + (at.left - k),
             ..at
         };
-        if at.rest == 1 {
+        if at.i + 1 == self.asked.operations {
             let tail = ways::try_last(t, s, out.copy, o, k);
             self.explore_step::<N>(t, next, out);
             let mut path = at.path;
@@ -270,10 +270,10 @@ impl Search<'_> {
     // All that goes on with a step, on a table saved by value in N words.
     #[cycle(explore)]
     fn explore_saved<const N: usize>(&self, t: &[u16], at: Spot, out: &mut Listing<'_>)
-        requires exploring { Exploring N (length t.now) (length out.old.copy.now) (length self.now.ops.now) self.now.asked at }
+        requires exploring { Exploring N (length t.now) (length out.old.copy.now) self.now.asked at }
         requires table_of { TableOf (sizes_of self.now.asked) t.now × ((begun (op_in self.now.ops.now at.i) t.now).0 ≡ true) }
         ensures value { listing self.now.asked self.now.ops.now (take at.i at.path) at.n
-            (by_step at.left t.now (ops_in at.rest self.now.ops.now at.i)) (state_of out.old) ≡ state_of out.new }
+            (by_step at.left t.now (ops_in (self.now.asked.operations - at.i) self.now.ops.now at.i)) (state_of out.old) ≡ state_of out.new }
         ensures kept { Kept out.old out.new }
     {
         let mut saved = [0u16; N];
@@ -286,10 +286,10 @@ impl Search<'_> {
     // All that goes on with the begin of operation i. The table is used up.
     #[cycle(explore)]
     pub fn explore_begin<const N: usize>(&self, t: &mut [u16], at: Spot, out: &mut Listing<'_>)
-        requires exploring { Exploring N (length t.old) (length out.old.copy.now) (length self.now.ops.now) self.now.asked at }
+        requires exploring { Exploring N (length t.old) (length out.old.copy.now) self.now.asked at }
         requires table_of { TableOf (sizes_of self.now.asked) t.old }
         ensures value { listing self.now.asked self.now.ops.now (take at.i at.path) at.n
-            (by_begin at.left t.old (ops_in at.rest self.now.ops.now at.i)) (state_of out.old) ≡ state_of out.new }
+            (by_begin at.left t.old (ops_in (self.now.asked.operations - at.i) self.now.ops.now at.i)) (state_of out.old) ≡ state_of out.new }
         ensures kept { Kept out.old out.new }
     {
         if at.left == 0 {
@@ -306,7 +306,7 @@ impl Search<'_> {
         let left = at.left - 1;
         let mut path = at.path;
         path[at.i] = at.n;
-        if at.rest == 1 {
+        if at.i + 1 == self.asked.operations {
             let tail = ways::steps_left(t, s, left);
             return self.emit_tail(tail, path, out);
         }
@@ -317,7 +317,6 @@ impl Search<'_> {
         }
         let next = Spot {
             i,
-            rest: at.rest - 1,
             left: k,
             n: left - k,
             path,

@@ -5,7 +5,7 @@ ghost use Rattle.std.specs.Prelude.{◌≡◌, ◌≢◌, true, ◌≤◌, ◌/�
 ghost use Rattle.words.specs.Layout.{limits, words};
 ghost use Rattle.ways.specs.Schedules.{fresh, schedules};
 ghost use Rattle.search.specs.declared.What.TheVariants.{Tally};
-ghost use Rattle.search.specs.Walk.{sizes_of, ops_of, listed_of, Listable};
+ghost use Rattle.search.specs.Walk.{sizes_of, ops_of, listed_of};
 ghost use Rattle.tries.specs.Tries.{
   sizes,
   why,
@@ -45,7 +45,7 @@ fn make_fresh(t: &mut [u16], asked: Asked)
 
 // Every schedule of the operations from a fresh table, which has at most N words.
 fn list_in<const N: usize>(search: Search<'_>, room: &mut [u8], tallies: &mut [u64]) -> Listed
-    requires { Listable (length search.ops.now) search.asked × (words (sizes_of search.asked) ≤ N) × (N ≤ 2276) }
+    requires { (words (sizes_of search.asked) ≤ N) × (N ≤ 2276) }
     ensures { listed_of search.entry.asked search.entry.ops.now room.old tallies.old ≡ (result, (room.new, tallies.new)) }
 {
     let asked = search.asked;
@@ -73,7 +73,6 @@ fn list_in<const N: usize>(search: Search<'_>, room: &mut [u8], tallies: &mut [u
     // nothing runs yet: no schedule begins with a step
     let at = Spot {
         i: 0,
-        rest: asked.operations,
         left: MOVES,
         n: 0,
         path: [0u16; 7],
@@ -84,7 +83,6 @@ fn list_in<const N: usize>(search: Search<'_>, room: &mut [u8], tallies: &mut [u
 
 // Every schedule of the operations from a fresh table.
 fn list_all(search: Search<'_>, room: &mut [u8], tallies: &mut [u64]) -> Listed
-    requires { Listable (length search.ops.now) search.asked }
     ensures { listed_of search.entry.asked search.entry.ops.now room.old tallies.old ≡ (result, (room.new, tallies.new)) }
 {
     if words::words_of(search.asked.sizes()) <= SMALL {
@@ -98,34 +96,48 @@ fn list_all(search: Search<'_>, room: &mut [u8], tallies: &mut [u64]) -> Listed
 pub const LONGEST: usize = 202;
 
 // Whether the room is too small for the texts that are wanted. Where it has LONGEST bytes for each, it is not; else they are measured.
-fn is_short(asked: Asked, ops: &[u16], room: &mut [u8]) -> bool
-    requires { Listable (length ops.now) asked }
-    ensures { (result ≡ short asked ops.now room.old) × (room.new ≡ room.old) }
+fn is_short(search: Search<'_>, room: &mut [u8]) -> bool
+    ensures { (result ≡ short search.entry.asked search.entry.ops.now room.old) × (room.new ≡ room.old) }
 {
-    if asked.bound <= (room.len() / LONGEST) as u64 {
+    if search.asked.bound <= (room.len() / LONGEST) as u64 {
         return false;
     }
     let asked = Asked {
         what: What::Measure,
-        ..asked
+        ..search.asked
     };
-    let measured = list_all(Search { asked, ops }, room, &mut []);
+    let measured = list_all(
+        Search {
+            asked,
+            ops: search.ops,
+        },
+        room,
+        &mut [],
+    );
     measured.stop == Stop::Full
 }
 
 // The texts in the room; nothing is written where it is too small.
-fn list_texts(asked: Asked, ops: &[u16], room: &mut [u8]) -> Result<Tried, u16>
-    requires { Listable (length ops.now) asked × (asked.bound ≤ 4294967295) }
-    ensures { listed_in (texts (sizes_of asked) (ops_of asked ops.now)) asked.bound room.old ≡ (tried_says result, room.new) }
+fn list_texts(search: Search<'_>, room: &mut [u8]) -> Result<Tried, u16>
+    requires { search.asked.bound ≤ 4294967295 }
+    ensures { listed_in (texts (sizes_of search.entry.asked) (ops_of search.entry.asked search.entry.ops.now)) search.entry.asked.bound room.old
+        ≡ (tried_says result, room.new) }
 {
-    if is_short(asked, ops, room) {
+    if is_short(search, room) {
         return Err(12);
     }
     let asked = Asked {
         what: What::Write,
-        ..asked
+        ..search.asked
     };
-    let listed = list_all(Search { asked, ops }, room, &mut []);
+    let listed = list_all(
+        Search {
+            asked,
+            ops: search.ops,
+        },
+        room,
+        &mut [],
+    );
     Ok(Tried {
         count: listed.count as u32,
         bytes: listed.at,
@@ -133,7 +145,7 @@ fn list_texts(asked: Asked, ops: &[u16], room: &mut [u8]) -> Result<Tried, u16>
     })
 }
 
-// What is asked of these operations, four words each, or the first refusal.
+// The search that is asked of these operations, four words each, or the first refusal.
 fn ask(
     levels: u16,
     queues: u16,
@@ -141,10 +153,10 @@ fn ask(
     ops: &[u16],
     bound: u64,
     what: What,
-) -> Result<Asked, u16>
+) -> Result<Search<'_>, u16>
     ensures { MatchResult result
-        (λ a. (a ≡ record { levels = levels; queues = queues; nodes = nodes; operations = length ops.now / 4; bound = bound; what = what })
-        × (why (sizes levels queues nodes) (length ops.now / 4) ≡ 0))
+        (λ s. (s.asked ≡ record { levels = levels; queues = queues; nodes = nodes; operations = length ops.now / 4; bound = bound; what = what })
+        × (s.ops.now ≡ ops.now) × (why (sizes levels queues nodes) (length ops.now / 4) ≡ 0))
         (λ r. (why (sizes levels queues nodes) (length ops.now / 4) ≡ r) × (r ≢ 0)) }
 {
     let asked = Asked {
@@ -161,7 +173,7 @@ fn ask(
     if !words::in_limits(asked.sizes()) {
         return Err(2);
     }
-    Ok(asked)
+    Ok(Search { asked, ops })
 }
 
 // Every schedule of the operations, four words each, as text, at most bound of them.
@@ -175,8 +187,8 @@ pub fn try_schedules(
 ) -> Result<Tried, u16>
     ensures { tries_of levels queues nodes ops.now bound room.old ≡ (tried_says result, room.new) }
 {
-    let asked = ask(levels, queues, nodes, ops, bound as u64, What::Write)?;
-    list_texts(asked, ops, room)
+    let search = ask(levels, queues, nodes, ops, bound as u64, What::Write)?;
+    list_texts(search, room)
 }
 
 // Nothing bounds the count.
@@ -184,7 +196,7 @@ pub const UNBOUND: u64 = 18446744073709551615;
 
 // How many schedules there are; their outcomes are counted too, where that is asked.
 fn count_all(search: Search<'_>, tallies: &mut [u64]) -> u64
-    requires { Listable (length search.ops.now) search.asked × Counting search.asked }
+    requires { Counting search.asked }
     ensures value { result ≡ length (schedules (sizes_of search.entry.asked) (ops_of search.entry.asked search.entry.ops.now)) }
     ensures tallies_after { search.entry.asked.what ≡ Tally
         → tallies.new ≡ tallied_all (sizes_of search.entry.asked) search.entry.ops.now search.entry.asked.operations
@@ -205,8 +217,8 @@ fn count_as(
     ensures ops_value { number_of levels queues nodes ops.now ≡ number_says result }
     ensures tallies_value { what ≡ Tally → tallies_of levels queues nodes ops.now tallies.old ≡ tallies.new }
 {
-    let asked = ask(levels, queues, nodes, ops, UNBOUND, what)?;
-    Ok(count_all(Search { asked, ops }, tallies))
+    let search = ask(levels, queues, nodes, ops, UNBOUND, what)?;
+    Ok(count_all(search, tallies))
 }
 
 // How many schedules there are.

@@ -9,4 +9,4 @@ pub returns-then-not-in_limits : goal.returns-then-not-in_limits
 returns-then-not-in_limits c = (why_2 _ _ c.if-asked-gt6.false (cc), λ z. omega arith)
 
 pub returns : goal.returns
-returns c = (refl, why_none _ _ c.if-asked-gt6.false (cc))
+returns c = (refl, refl, why_none _ _ c.if-asked-gt6.false (cc))

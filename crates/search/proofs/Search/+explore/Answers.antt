@@ -1,6 +1,7 @@
 use Rattle.search.proofs.Laws.{step_cut, step_more, step_last, begin_none, begin_cut, begin_more, begin_last, begin_stop}
 use Rattle.search.proofs.Laws.{listing_closed, copied, count_more, last_path}
-use mathlib.Core.Path.{refl}
+use Prim.Native.Nat.{ℕ, ◌+◌, ◌-◌}
+use mathlib.Core.Path.{◌≡◌, refl}
 use native.Mathlib.Omega.{arith}
 use borrow.Author.Rules.{rules}
 use Rattle.search.proofs.Search.+explore.Goals as goal
@@ -15,30 +16,33 @@ explore_begin-returns-then-not-is_open-clause-value g t c = listing_closed _ _ _
 
 pub explore_begin-returns-then-not-begin_sized-clause-value : goal.explore_begin-returns-then-not-begin_sized-clause-value
 explore_begin-returns-then-not-begin_sized-clause-value g t c =
-    begin_stop _ _ _ _ _ _ _ _ _ _ _ _ c.requires.exploring.1 c.op_in-o.ensures c.if-not-begin_sized.true c.begin_sized.ensures.0
+    begin_stop _ _ _ _ _ _ _ _ _ _ _ _ (omega arith) c.op_in-o.ensures c.if-not-begin_sized.true c.begin_sized.ensures.0
 
 pub explore_begin-emit_tail-requires : goal.explore_begin-emit_tail-requires
 explore_begin-emit_tail-requires g t c =
-    let pre = c.requires.exploring in
-    (omega arith, copied c.args.self.now.asked _ _ c.requires.table_of (omega (arith, pre)))
+    let pre = c.requires.exploring in copied c.args.self.now.asked _ _ c.requires.table_of (omega (arith, pre))
 
-pub explore_begin-returns-then-at-eq1-clause-value : goal.explore_begin-returns-then-at-eq1-clause-value
-explore_begin-returns-then-at-eq1-clause-value g t c =
+pub explore_begin-returns-then-at-self-clause-value : goal.explore_begin-returns-then-at-self-clause-value
+explore_begin-returns-then-at-self-clause-value g t c =
     let path = last_path c.args.at.path c.args.at.i c.args.at.n c.args.self.now.asked.operations (omega arith) (search rules) in
-    begin_last _ _ _ _ _ _ _ _ _ _ _ _ _ _ _ c.if-at-eq0.false c.if-at-eq1.true c.op_in-o.ensures c.if-not-begin_sized.false
+    begin_last _ _ _ _ _ _ _ _ _ _ _ _ _ _ _ c.if-at-eq0.false (omega arith) c.op_in-o.ensures c.if-not-begin_sized.false
     c.begin_sized.ensures.0 path c.steps_left-tail.ensures c.emit_tail.ensures.value
 
 pub explore_begin-returns-then-k-eq0-clause-value : goal.explore_begin-returns-then-k-eq0-clause-value
 explore_begin-returns-then-k-eq0-clause-value g t c =
-    begin_cut _ _ _ _ _ _ _ _ _ _ _ _ _ _ _ _ c.if-at-eq0.false c.requires.exploring.1 c.if-at-eq1.false c.op_in-o.ensures
+    begin_cut _ _ _ _ _ _ _ _ _ _ _ _ _ _ _ _ c.if-at-eq0.false (omega arith) (λ h. omega arith) c.op_in-o.ensures
     c.if-not-begin_sized.false c.begin_sized.ensures.0 (count_more _ _ _ (search rules)) c.op_in.ensures c.stretch-k.ensures.t_value
     c.if-k-eq0.true
 
 pub explore_begin-returns-clause-value : goal.explore_begin-returns-clause-value
 explore_begin-returns-clause-value g t c =
-    begin_more _ _ _ _ _ _ _ _ _ _ _ _ _ _ _ _ _ _ _ c.if-at-eq0.false c.requires.exploring.1 c.if-at-eq1.false c.op_in-o.ensures
+    let all : ℕ = c.args.self.now.asked.operations in
+    let rest : all - (c.args.at.i + 1) ≡ all - c.args.at.i - 1 = omega arith in
+    let saved = c.explore_saved.ensures.value in
+    let begun = c.explore_begin.ensures.value in
+    begin_more _ _ _ _ _ _ _ _ _ _ _ _ _ _ _ _ _ _ _ c.if-at-eq0.false (omega arith) (λ h. omega arith) c.op_in-o.ensures
     c.if-not-begin_sized.false c.begin_sized.ensures.0 (count_more _ _ _ (search rules)) c.op_in.ensures c.stretch-k.ensures.t_value
-    c.stretch-k.ensures.fact.0 refl c.explore_saved.ensures.value c.explore_begin.ensures.value
+    c.stretch-k.ensures.fact.0 refl (rw rest at saved) (rw rest at begun)
 
 -- ---- with a step
 
@@ -47,21 +51,21 @@ explore_step-returns-then-not-is_open-clause-value g t c = listing_closed _ _ _ 
 
 pub explore_step-returns-then-k-eq0-clause-value : goal.explore_step-returns-then-k-eq0-clause-value
 explore_step-returns-then-k-eq0-clause-value g t c =
-    step_cut _ _ _ _ _ _ _ _ _ _ _ _ c.requires.exploring.1 c.op_in-o.ensures c.go_on-k.ensures.t_value c.if-k-eq0.true
+    step_cut _ _ _ _ _ _ _ _ _ _ _ _ (omega arith) c.op_in-o.ensures c.go_on-k.ensures.t_value c.if-k-eq0.true
 
 pub explore_step-emit_tail-requires : goal.explore_step-emit_tail-requires
 explore_step-emit_tail-requires g t c =
     let pre = c.requires.exploring in
     let copies = c.explore_step.ensures.kept.copy in
-    (omega arith, copied c.args.self.now.asked _ _ c.requires.table_of.0 (omega (arith, pre, copies, c.try_last-tail.auto.copy)))
+    copied c.args.self.now.asked _ _ c.requires.table_of.0 (omega (arith, pre, copies, c.try_last-tail.auto.copy))
 
-pub explore_step-returns-then-at-eq1-clause-value : goal.explore_step-returns-then-at-eq1-clause-value
-explore_step-returns-then-at-eq1-clause-value g t c =
+pub explore_step-returns-then-at-self-clause-value : goal.explore_step-returns-then-at-self-clause-value
+explore_step-returns-then-at-self-clause-value g t c =
     let path = last_path c.args.at.path c.args.at.i _ c.args.self.now.asked.operations (omega arith) (search rules) in
-    step_last _ _ _ _ _ _ _ _ _ _ _ _ _ _ _ _ _ c.if-at-eq1.true c.op_in-o.ensures c.go_on-k.ensures.t_value refl
+    step_last _ _ _ _ _ _ _ _ _ _ _ _ _ _ _ _ _ (omega arith) c.op_in-o.ensures c.go_on-k.ensures.t_value refl
     c.try_last-tail.ensures path c.explore_step.ensures.value c.emit_tail.ensures.value
 
-pub explore_step-returns-else-at-eq1-clause-value : goal.explore_step-returns-else-at-eq1-clause-value
-explore_step-returns-else-at-eq1-clause-value g t c =
-    step_more _ _ _ _ _ _ _ _ _ _ _ _ _ _ _ c.requires.exploring.1 c.op_in-o.ensures c.go_on-k.ensures.t_value refl
+pub explore_step-returns-else-at-self-clause-value : goal.explore_step-returns-else-at-self-clause-value
+explore_step-returns-else-at-self-clause-value g t c =
+    step_more _ _ _ _ _ _ _ _ _ _ _ _ _ _ _ (omega arith) c.op_in-o.ensures c.go_on-k.ensures.t_value refl
     c.explore_saved.ensures.value c.explore_begin.ensures.value

@@ -17,8 +17,8 @@ returns-in-Count-clause-value c = emit_on _ _ _ _ _ _ (cc) c.if-self-out.false c
 pub returns-in-Tally-clause-value : goal.returns-in-Tally-clause-value
 unfolding entered
 returns-in-Tally-clause-value c =
-    let pre = c.requires in
-    let tally_says = c.tally.ensures (record { sized = pre.1.0; table = pre.1.1; few = pre.0.0; whole = pre.0.1 }) in
+    let fits = c.args.self.now.fits in
+    let tally_says = c.tally.ensures (record { sized = fits.0; table = c.requires; few = fits.1; whole = fits.2 }) in
     emit_on _ _ _ _ _ _ (cc) c.if-self-out.false c.in-Tally.is (rw (c.add-in-Tally.ensures, tally_says) refl)
 
 pub returns-in-Measure-clause-value : goal.returns-in-Measure-clause-value
