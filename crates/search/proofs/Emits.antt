@@ -11,7 +11,6 @@ use Rattle.ways.specs.declared.Op.{Op}
 use Rattle.ways.specs.Schedules.{ops_in}
 use Rattle.entries.specs.Texts.{first, others, events_of}
 use Rattle.entries.proofs.Entries.{text_length}
-use Rattle.outcomes.specs.Tallies.{tallied}
 use Rattle.outcomes.specs.TalliesLaws.{tallied_take}
 use Rattle.search.specs.declared.Asked.{Asked}
 use Rattle.search.specs.declared.Listed.{Listed}

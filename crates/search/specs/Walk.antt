@@ -1,5 +1,5 @@
 -- The schedules listed one after another, as the explorers do it.
-use Rattle.std.specs.Prelude.{ℕ, ◌+◌, ◌*◌, ◌≤◌, ◌<◌, ◌≡◌, Bool, true, false, cond, List, [], ◌∷◌, ◌++◌, leb, eqb, length, Option, Some, None}
+use Rattle.std.specs.Prelude.{ℕ, ◌+◌, ◌*◌, ◌≤◌, ◌<◌, ◌≡◌, Bool, true, false, cond, List, [], ◌∷◌, ◌++◌, leb, length, Option, Some, None}
 use Rattle.std.proofs.lemmas.List.Edits.{sets}
 use Rattle.words.specs.declared.Sizes.{Sizes}
 use Rattle.words.specs.Layout.{limits, words}

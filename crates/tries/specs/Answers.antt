@@ -23,7 +23,6 @@ use Rattle.ways.specs.Calls.{stepped_is}
 use Rattle.search.specs.declared.Asked.{Asked}
 use Rattle.search.specs.Walk.{sizes_of, State, tailed, listing, none, listed_of}
 use Rattle.search.proofs.Laws.{listing_append, tail_is, step_stop}
-use Rattle.words.specs.Copies.{part_length}
 use Rattle.tries.specs.Tries.{sizes, operations, texts, why, Answer, listed_in, tries_of, number_of, tallied_all, tallies_of}
 
 -- ---- the refusals
