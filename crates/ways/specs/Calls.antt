@@ -9,6 +9,7 @@ use Rattle.words.specs.declared.Node.{Node}
 use Rattle.words.specs.declared.Sizes.{Sizes}
 use Rattle.words.specs.declared.Measured.TheVariants.{Sized, Unfit}
 use Rattle.words.specs.Layout.{measured, frame_of}
+use Rattle.words.specs.Laws.{measured_fits}
 use Rattle.answers.specs.Said.{Said, refused, says, Step}
 use Rattle.begins.specs.Begin.{unless, enqueue_why, enqueue_sized, enqueue_measured, enqueue_of}
 use Rattle.begins.specs.Begin.{dequeue_why, dequeue_sized, dequeue_measured, dequeue_of}
@@ -112,6 +113,8 @@ may_odd o t k z = sym (ap (λ (x : Tried). x.0) (begun_odd o t k z))
 pub may_none : (o : Op) (t : List ℕ) → (o.op ≡ 1 → ⊥) → (o.op ≡ 2 → ⊥) → false ≡ (begun o t).0
 may_none o t k z = sym (ap (λ (x : Tried). x.0) (begun_none o t k z))
 
+pub ruleset may = (measured_fits, may_enqueue, may_dequeue, may_odd, may_none)
+
 -- an operation that would begin: no refusal is given
 pub accepted_enqueue : (o : Op) (s : Sizes) (t : List ℕ) → o.op ≡ 1 → measured t ≡ Sized s → (begun o t).0 ≡ true
     → enqueue_why s t o.level o.queue o.node ≡ 0
@@ -134,6 +137,8 @@ accepted_nodeless o t k h = by (eqb o.node.0 0) refl
 pub accepted_dequeue : (o : Op) (s : Sizes) (t : List ℕ) → o.op ≡ 2 → o.node.0 ≡ 0 → measured t ≡ Sized s → (begun o t).0 ≡ true
     → dequeue_why s t o.level o.queue ≡ 0
 accepted_dequeue o s t k z m h = eqb-true _ 0 (may_dequeue o s t (dequeue_why s t o.level o.queue) k z m refl ∙ h)
+
+pub ruleset accepted = (measured_fits, accepted_enqueue, accepted_two, accepted_nodeless, accepted_dequeue)
 
 -- and one that would not leaves the table
 unless_stays : (why : ℕ) (t new : List ℕ) → accepts (unless why t new).0 ≡ false → tried (unless why t new) ≡ (false, t)

@@ -18,6 +18,7 @@ pub struct Op {
 }
 
 // Operation i of the words.
+#[tactic(auto, unfolding(crate::specs::Schedules::op_in))]
 pub fn op_in(ops: &[u16], i: usize) -> Op
     requires { (i < 6) × (4 * i + 4 ≤ length ops.now) }
     ensures { result ≡ op_in ops.now i }
@@ -31,22 +32,20 @@ pub fn op_in(ops: &[u16], i: usize) -> Op
 }
 
 // Whether the operation would be accepted.
+#[tactic(auto, using(crate::specs::Calls::may))]
 fn may_begin(t: &[u16], s: Sizes, o: Op) -> bool
     requires { TableOf s t.now }
     ensures { result ≡ (begun o t.now).0 }
 {
-    if o.op == 1 {
-        return begins::enqueue_why(t, s, o.level, o.queue, o.node) == 0;
+    match o.op {
+        1 => begins::enqueue_why(t, s, o.level, o.queue, o.node) == 0,
+        2 if o.node.0 == 0 => begins::dequeue_why(t, s, o.level, o.queue) == 0,
+        _ => false,
     }
-    if o.op == 2 {
-        if o.node.0 == 0 {
-            return begins::dequeue_why(t, s, o.level, o.queue) == 0;
-        }
-    }
-    false
 }
 
 // Begins the operation, which is accepted, on a table that was measured.
+#[tactic(auto, using(crate::specs::Calls::accepted))]
 fn put_begin(t: &mut [u16], s: Sizes, o: Op)
     requires { TableOf s t.old × ((begun o t.old).0 ≡ true) }
     ensures { (begun o t.old ≡ (true, t.new)) × TableOf s t.new }
@@ -59,6 +58,7 @@ fn put_begin(t: &mut [u16], s: Sizes, o: Op)
 }
 
 // Begins the operation on a table that was measured, if it would be accepted.
+#[tactic(auto, using(crate::specs::Calls::refused_stays))]
 pub fn begin_sized(t: &mut [u16], s: Sizes, o: Op) -> bool
     requires { TableOf s t.old }
     ensures { (begun o t.old ≡ (result, t.new)) × TableOf s t.new }
@@ -72,6 +72,7 @@ pub fn begin_sized(t: &mut [u16], s: Sizes, o: Op) -> bool
 }
 
 // Begins the operation, if it would be accepted.
+#[tactic(auto, using(crate::specs::Calls::begun_unfit))]
 pub fn take_begin(t: &mut [u16], o: Op) -> bool
     ensures { begun o t.old ≡ (result, t.new) }
 {
@@ -154,6 +155,7 @@ pub fn copy_words(from: &[u16], to: &mut [u16])
 }
 
 // The last operation, which is accepted, begins on a copy of the table: the steps that follow it, or None where they do not end.
+#[tactic(auto, using(crate::specs::Stretches::last_none, crate::specs::Stretches::last_begun))]
 pub fn try_last(t: &[u16], s: Sizes, copy: &mut [u16], o: Op, left: u16) -> Option<u16>
     requires { (length copy.old ≡ length t.now) × TableOf s t.now × ((begun o t.now).0 ≡ true) }
     ensures { last_in o left t.now ≡ result }

@@ -1,7 +1,6 @@
 use Rattle.ways.specs.Runs.{tail_of, end_ran}
 use Rattle.ways.proofs.steps_left.Goals as goal
 
--- src/lib.rt:147:1
 pub returns-in-Idle : goal.returns-in-Idle
 unfolding tail_of
 returns-in-Idle c = let pre = c.requires in
@@ -9,7 +8,6 @@ returns-in-Idle c = let pre = c.requires in
     let run_out_says = c.run_out.ensures in
     end_ran _ _ _ _ _ pre (rw k_known_1 at run_out_says)
 
--- src/lib.rt:147:1
 pub returns-in-Ended : goal.returns-in-Ended
 unfolding tail_of
 returns-in-Ended c = let pre = c.requires in
@@ -17,7 +15,6 @@ returns-in-Ended c = let pre = c.requires in
     let run_out_says = c.run_out.ensures in
     end_ran _ _ _ _ _ pre (rw enum_told_known_1 at run_out_says)
 
--- src/lib.rt:147:1
 pub returns-in-Spent : goal.returns-in-Spent
 unfolding tail_of
 returns-in-Spent c = let pre = c.requires in
@@ -25,7 +22,6 @@ returns-in-Spent c = let pre = c.requires in
     let run_out_says = c.run_out.ensures in
     end_ran _ _ _ _ _ pre (rw enum_told2_known_1 at run_out_says)
 
--- src/lib.rt:147:1
 pub returns-in-Damaged : goal.returns-in-Damaged
 unfolding tail_of
 returns-in-Damaged c = let pre = c.requires in
@@ -33,7 +29,6 @@ returns-in-Damaged c = let pre = c.requires in
     let run_out_says = c.run_out.ensures in
     end_ran _ _ _ _ _ pre (rw enum_told3_known_1 at run_out_says)
 
--- src/lib.rt:147:1
 pub returns-in-Refused : goal.returns-in-Refused
 unfolding tail_of
 returns-in-Refused c = let pre = c.requires in
