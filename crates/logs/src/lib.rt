@@ -20,7 +20,7 @@ ghost use Rattle.logs.specs.Parts.{placed_log};
 
 use answers::{Counted, Done};
 use loglines::{Beside, Pen};
-use text::{Opening, SizesRead};
+use text::{BadLine, Opening};
 use words::Queue;
 
 // The log as it is, or the bounds log: the bound on its steps stands last in each E line.
@@ -112,8 +112,8 @@ fn write_whole(kind: Kind, text: &[u8], table: &mut [u16], room: &mut [u8]) -> P
     ensures { into (At 0, room.old) (log_text kind text.now table.old) ≡ ((result, room.new), table.new) }
 {
     match schedule::check_text(text) {
-        SizesRead::Read(o, place) => write_played(kind, text, place, o, table, room),
-        SizesRead::Refused(line) => loglines::put_text_refusal(room, Pen::At(0), line),
+        Ok((o, place)) => write_played(kind, text, place, o, table, room),
+        Err(BadLine(line)) => loglines::put_text_refusal(room, Pen::At(0), line),
     }
 }
 

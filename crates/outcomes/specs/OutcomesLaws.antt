@@ -1,6 +1,6 @@
 -- What the proofs of the replay cite.
 use Prim.Native.Nat.{ℕ, zero, suc, ◌+◌, ◌-◌, ◌≤◌, ◌<◌}
-use Rattle.std.specs.Prelude.{◌≡◌, refl, Bool, true, false, length, get_or, take, replicate, ltb}
+use Rattle.std.specs.Prelude.{◌≡◌, refl, Bool, true, false, length, get_or, take, replicate, ltb, None}
 use Rattle.std.proofs.Math.Path.{ap}
 use Rattle.std.proofs.Common.{◌∙◌, add-one, drop_of_length-le, get_or-take, le-ltb}
 use mathlib.Core.List.{List, [], ◌∷◌, ◌++◌}
@@ -8,7 +8,6 @@ use native.Mathlib.Omega.{arith}
 use Rattle.std.proofs.lemmas.List.{length-replicate}
 use Rattle.words.specs.declared.Queue.{Queue}
 use Rattle.words.specs.declared.Sizes.{Sizes}
-use Rattle.words.specs.declared.Measured.TheVariants.{Unfit}
 use Rattle.words.specs.Layout.{limits, measured, words}
 use Rattle.answers.specs.declared.End.{End}
 use Rattle.answers.specs.Said.{Said, refused, says, Run, after, an_end}
@@ -71,7 +70,7 @@ steps_none x zero t h = into_none x t
 steps_none x (suc n) t h = absurd (omega arith)
 
 -- no table
-pub steps_unfit : (x : Notes) (left : ℕ) (t : List ℕ) → measured t ≡ Unfit → into x (replay_steps left t) ≡ (x, t)
+pub steps_unfit : (x : Notes) (left : ℕ) (t : List ℕ) → measured t ≡ None → into x (replay_steps left t) ≡ (x, t)
 unfolding run_of run_measured ran_played
 steps_unfit x zero t m = steps_none x 0 t (omega arith)
 steps_unfit x (suc left) t m = steps_stopped x (suc left) t t (refused 1) (omega arith) (rw m) refl

@@ -9,7 +9,7 @@ ghost use Rattle.play.specs.Parts.{into, at_place};
 
 use answers::{Done, Ran};
 use loglines::{Beside, Pen};
-use text::{Event, EventRead};
+use text::Event;
 
 // The log so far, and whether the event was refused.
 #[derive(Clone, Copy)]
@@ -95,7 +95,7 @@ pub fn play_events(
     while i < count {
         i += 1;
         match reader::event_at(text, at) {
-            EventRead::Read(e, after) => {
+            Ok((e, after)) => {
                 at = after;
                 let turn = play_event(table, room, next, e, beside);
                 next = turn.pen;
@@ -107,7 +107,7 @@ pub fn play_events(
                     }
                 }
             }
-            EventRead::Refused(_) => {
+            Err(_) => {
                 return next;
             }
         }

@@ -99,9 +99,9 @@ impl Asked {
         ensures { result ≡ sizes_of self.now }
     {
         Sizes {
-            levels: words::wide(self.levels),
-            queues: words::wide(self.queues),
-            nodes: words::wide(self.nodes),
+            levels: usize::from(self.levels),
+            queues: usize::from(self.queues),
+            nodes: usize::from(self.nodes),
         }
     }
 

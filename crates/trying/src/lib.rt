@@ -17,7 +17,7 @@ ghost use Rattle.trying.specs.Bounds.{digit_on, bound_in};
 use loglines::Pen;
 use outcomes::Written;
 use std::env::{Env, FillError};
-use tasks::Task;
+use tasks::TaskError;
 use text::Opening;
 use tries::{Number, Tried};
 
@@ -155,12 +155,12 @@ pub fn write_schedules(text: &[u8], bound: u32, room: &mut [u8]) -> Answer
 {
     let mut ops = [0u16; 24];
     match tasks::read_task(text, &mut ops) {
-        Task::Is(o) => {
+        Ok(o) => {
             let n = 4 * words::wide(o.events);
             list_schedules(o, &ops[..n], bound, room)
         }
-        Task::Wrong(line) => tell_wrong(line, room),
-        Task::Refused(number) => tell_refused(number, room),
+        Err(TaskError::Line(bad)) => tell_wrong(bad.0, room),
+        Err(TaskError::TooMany) => tell_refused(14, room),
     }
 }
 
@@ -183,12 +183,12 @@ pub fn write_outcomes(text: &[u8], room: &mut [u8]) -> Answer
 {
     let mut ops = [0u16; 24];
     match tasks::read_task(text, &mut ops) {
-        Task::Is(o) => {
+        Ok(o) => {
             let n = 4 * words::wide(o.events);
             count_schedules(o, &ops[..n], room)
         }
-        Task::Wrong(line) => tell_wrong(line, room),
-        Task::Refused(number) => tell_refused(number, room),
+        Err(TaskError::Line(bad)) => tell_wrong(bad.0, room),
+        Err(TaskError::TooMany) => tell_refused(14, room),
     }
 }
 

@@ -8,29 +8,21 @@ use Rattle.trying.proofs.write_schedules.Goals as goal
 
 pub slice_bounds-ops-end : goal.slice_bounds-ops-end
 unfolding task_says
-slice_bounds-ops-end c = let read_task = rw c.in-Is.is at c.read_task.ensures in
-    task_fits _ _ _ _ _ (omega arith) read_task c.wide-n.ensures
+slice_bounds-ops-end c = task_fits _ _ _ _ _ (omega arith) c.in-Ok.ensures c.wide-n.ensures
 
 pub slice_bounds-list_schedules-end : goal.slice_bounds-list_schedules-end
 unfolding task_says
-slice_bounds-list_schedules-end c = let read_task = rw c.in-Is.is at c.read_task.ensures in
-    sym (length-take-le _ _ (task_fits _ _ _ _ _ (omega arith) read_task c.wide-n.ensures))
+slice_bounds-list_schedules-end c = sym (length-take-le _ _ (task_fits _ _ _ _ _ (omega arith) c.in-Ok.ensures c.wide-n.ensures))
 
-pub returns-in-Is : goal.returns-in-Is
+pub returns-in-Ok : goal.returns-in-Ok
 unfolding task_says
-returns-in-Is c = let told = c.in-Is.is in
-    let read_task = rw told at c.read_task.ensures in
-    let wide = c.wide-n.ensures in
-    task_told_holds (list_told _ _) _ _ _ _ _ _ _ (omega arith) read_task wide c.list_schedules.ensures
+returns-in-Ok c = task_told_holds (list_told _ _) _ _ _ _ _ _ _ (omega arith) c.in-Ok.ensures c.wide-n.ensures c.list_schedules.ensures
 
-pub returns-in-Wrong : goal.returns-in-Wrong
+pub returns-in-Err-Line : goal.returns-in-Err-Line
 unfolding task_says
-returns-in-Wrong c = let told = c.in-Wrong.is in
-    let read_task = rw told at c.read_task.ensures in
-    wrong_told (list_told _ _) _ _ _ _ _ _ read_task c.tell_wrong.ensures
+returns-in-Err-Line c = wrong_told (list_told _ _) _ _ _ _ _ _ (rw (c.in-Err-Line.field-0-is, ← c.in-Err-Line.bad-is) at c.in-Err-Line.ensures) c.tell_wrong.ensures
 
-pub returns-in-Refused : goal.returns-in-Refused
+pub returns-in-Err-TooMany : goal.returns-in-Err-TooMany
 unfolding task_says
-returns-in-Refused c = let told = c.in-Refused.is in
-    let read_task = rw told at c.read_task.ensures in
-    refused_told_holds (list_told _ _) _ _ _ _ _ _ read_task c.tell_refused.ensures
+returns-in-Err-TooMany c =
+    refused_told_holds (list_told _ _) _ _ _ _ _ _ (rw c.in-Err-TooMany.field-0-is at c.in-Err-TooMany.ensures) c.tell_refused.ensures
