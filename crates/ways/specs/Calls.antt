@@ -101,7 +101,7 @@ unfolding begun
 may_2 o t k z = rw (k, z) refl
 
 -- no refusal has the number 0
-numbered : (r : Refusal) → false ≡ eqb (number r) 0
+pub numbered : (r : Refusal) → false ≡ eqb (number r) 0
 numbered = elim [
   | why.Table ↦ refl
   | why.Sizes ↦ refl
