@@ -7,6 +7,7 @@ ghost use Rattle.ways.specs.Schedules.{op_in, ops_in, begun, by_step, by_begin};
 ghost use Rattle.ways.specs.Forced.{TableOf};
 ghost use Rattle.search.specs.Walk.{sizes_of, entry_text, more, shut, noted, written, emitted, tailed, listing, Given, Roomy, Exploring};
 
+use entries::Schedule;
 use text::Opening;
 use ways::Tail;
 use words::Sizes;
@@ -100,7 +101,12 @@ fn measure_entry(asked: Asked, ops: &[u16], path: [u16; 7], listed: Listed, room
     requires { Given (length ops.now) asked × (listed.count < asked.bound) }
     ensures { result ≡ noted (entry_text asked ops.now path) listed room.now }
 {
-    let s = entries::events_size(ops, path, asked.operations);
+    let schedule = Schedule {
+        ops,
+        path,
+        k: asked.operations,
+    };
+    let s = schedule.events_size();
     let n = lines::opening_length(opening_of(asked, s.events)) + s.bytes;
     if has_room(room.len(), listed.at, n) {
         one_more(listed, n)
@@ -115,12 +121,17 @@ fn write_entry(asked: Asked, ops: &[u16], path: [u16; 7], listed: Listed, room: 
     ensures value { result ≡ noted (entry_text asked ops.now path) listed room.old }
     ensures room_after { room.new ≡ written (entry_text asked ops.now path) listed room.old }
 {
-    let s = entries::events_size(ops, path, asked.operations);
+    let schedule = Schedule {
+        ops,
+        path,
+        k: asked.operations,
+    };
+    let s = schedule.events_size();
     let o = opening_of(asked, s.events);
     let n = lines::opening_length(o) + s.bytes;
     if has_room(room.len(), listed.at, n) {
         let next = one_more(listed, n);
-        entries::write_text(room, listed.at, o, ops, path, asked.operations);
+        schedule.write_text(room, listed.at, o);
         next
     } else {
         close(listed, FULL)
