@@ -11,7 +11,9 @@ use Rattle.words.specs.declared.Sizes.{Sizes}
 use Rattle.words.specs.declared.Measured.TheVariants.{Unfit}
 use Rattle.words.specs.Layout.{limits, measured, words}
 use Rattle.answers.specs.declared.End.{End}
-use Rattle.answers.specs.Said.{Said, refused, says, Run, after, an_end}
+use Rattle.answers.specs.declared.Ran.{Ran}
+use Rattle.answers.specs.declared.Ran.TheVariants.{Ended, Spent, Idle, Damaged, Refused}
+use Rattle.answers.specs.Said.{Said, refused, says, Run, after, an_end, run_says}
 use Rattle.steps.specs.Run.{run_measured, run_of}
 use Rattle.fresh.specs.Fresh.{fresh_table, fresh_of}
 use Rattle.asks.specs.Listing.{listing_of}
@@ -64,6 +66,16 @@ module _ (x : Notes) (left : ℕ) (t : List ℕ) where
       ap (λ (p : Played). into x (at_end p)) (steps_run returned left t h ∙ ap (ran_played returned left) r)
       ∙ ap (into x) e
       ∙ into_none x u
+
+  -- a run that ended no operation
+  pub steps_halted : (u : List ℕ) (r : Ran) → 0 < left → run_of left t ≡ (run_says r, u) → ((n : ℕ) (e : End) → r ≡ Ended n e → ⊥)
+      → into x (replay_steps left t) ≡ (x, u)
+  unfolding ran_played
+  steps_halted u (Ended n e) h r f = absurd (f n e refl)
+  steps_halted u (Spent n) h r f = steps_stopped u _ h r refl
+  steps_halted u (Idle n) h r f = steps_stopped u _ h r refl
+  steps_halted u (Damaged n) h r f = steps_stopped u _ h r refl
+  steps_halted u (Refused n) h r f = steps_stopped u _ h r refl
 
 pub steps_none : (x : Notes) (left : ℕ) (t : List ℕ) → left ≤ 0 → into x (replay_steps left t) ≡ (x, t)
 unfolding steps_of

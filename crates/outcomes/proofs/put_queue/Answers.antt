@@ -5,6 +5,6 @@ use Rattle.outcomes.proofs.put_queue.Goals as goal
 pub returns : goal.returns
 unfolding queue_head
 returns c = let put = c.put-next.ensures in
-    let long = c.long.ensures.0 in
+    let long = c.from.ensures in
     let put_decimal = c.put_decimal.ensures in
     ink_then _ _ _ put (rw long at put_decimal)

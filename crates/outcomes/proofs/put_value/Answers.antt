@@ -11,6 +11,6 @@ pub returns-else-x-eq0 : goal.returns-else-x-eq0
 unfolding value_text
 returns-else-x-eq0 c = let if1_left = c.if-x-eq0.false in
     let put2 = c.put-next.ensures in
-    let long = c.long.ensures.0 in
+    let long = c.from.ensures in
     let put_decimal = c.put_decimal.ensures in
     rw (ne_eqb _ 0 if1_left) (ink_then _ _ _ put2 (rw long at put_decimal))
