@@ -1,28 +1,36 @@
 #![tactic(auto)]
-// Runs each schedule of the packed corpus: a header of 48 bytes with the title and the schedule's length, and the schedule.
+// Runs each schedule of the packed corpus: a header with the title and the schedule's length, and the schedule.
 ghost use Rattle.std.specs.Prelude.{◌≤◌, length, IfOk};
 
 use logs::{Kind, Logged};
 use std::io;
 
+// What stands before a schedule: 41 bytes of title, a space, the schedule's length in five digits, and LF.
+#[derive(Drop)]
+struct Header([u8; 48]);
+
+impl Header {
+    fn title(&self) -> &[u8] {
+        &self.0[..41]
+    }
+
+    // The schedule's length; what is no digit counts as 0.
+    fn length(&self) -> usize {
+        let mut n = 0;
+        for b in &self.0[42..47] {
+            n = 10 * n + digit(*b);
+        }
+        n
+    }
+}
+
 fn digit(b: u8) -> usize
     ensures { result ≤ 9 }
 {
-    if 48 <= b {
-        if b <= 57 {
-            return (b - 48) as usize;
-        }
+    match b {
+        b'0'..=b'9' => usize::from(b - b'0'),
+        _ => 0,
     }
-    0
-}
-
-// The five digits at 42..46 of a header.
-fn length_in(header: &[u8; 48]) -> usize {
-    10000 * digit(header[42])
-        + 1000 * digit(header[43])
-        + 100 * digit(header[44])
-        + 10 * digit(header[45])
-        + digit(header[46])
 }
 
 // Reads n bytes, if the text has room for them, and answers how many there were.
@@ -36,37 +44,18 @@ fn read_text(rt: &HostRuntime, text: &mut [u8], n: usize) -> io::Result<usize>
     }
 }
 
-// Where the LF of a line goes: of an E line in place of its last space.
-fn end_of(first: u8, space: usize, left: usize) -> usize
-    requires { space ≤ left }
-    ensures { (space ≤ result) × (result ≤ left) }
-{
-    if first == b'E' { space } else { left }
+// A line of the bounds log as the log has it: without the last number of an E line, and the space before it.
+fn without_bound(line: &[u8]) -> &[u8] {
+    match line.iter().rposition(|b| *b == b' ') {
+        Some(space) if line.starts_with(b"E") => &line[..space],
+        _ => line,
+    }
 }
 
-// Cuts the last number off each E line of n bytes, and the space before it; answers how many bytes are left.
-fn cut_bounds(log: &mut [u8], n: usize) -> usize
-    requires { n ≤ length log.old }
-    ensures { result ≤ length log.new }
-{
-    let mut left = 0;
-    let mut line = 0; // where it begins
-    let mut space = 0; // where the last one is
-    let mut i = 0;
-    while i < n {
-        let b = log[i];
-        if b == b' ' {
-            space = left;
-        }
-        if b == b'\n' {
-            left = end_of(log[line], space, left);
-            line = left + 1;
-        }
-        log[left] = b;
-        left += 1;
-        i += 1;
-    }
-    left
+// Whether the bounds log is the same as the log but for the bounds.
+fn agree(log: &[u8], bounds: &[u8]) -> bool {
+    let lines = bounds.split(|b| *b == b'\n').map(without_bound);
+    log.split(|b| *b == b'\n').eq(lines)
 }
 
 // The log. The bounds log must be the same but for the bounds: where it is not, a line in the log's place says so.
@@ -83,9 +72,9 @@ fn write_logs(
     let Logged::Bytes(n) = logs::write_log(Kind::Bounds, text, table, second) else {
         return Ok(false);
     };
-    let left = cut_bounds(second, n);
-    if room[..m] == second[..left] {
-        rt.write_all(&room[..m])?;
+    let log = &room[..m];
+    if agree(log, &second[..n]) {
+        rt.write_all(log)?;
     } else {
         rt.write_all(b"the two logs differ in more than the bounds\n")?;
     }
@@ -100,12 +89,12 @@ fn run_case(
     room: &mut [u8],
     second: &mut [u8],
 ) -> io::Result<bool> {
-    let mut header = [0u8; 48];
-    if streams::fill(&mut rt.stdin(), &mut header)? != 48 {
+    let mut header = Header([0; 48]);
+    if streams::fill(&mut rt.stdin(), &mut header.0)? != 48 {
         return Ok(false);
     }
-    let n = read_text(rt, text, length_in(&header))?;
-    rt.write_all(&header[..41])?;
+    let n = read_text(rt, text, header.length())?;
+    rt.write_all(header.title())?;
     rt.write_all(b"\n")?;
     write_logs(rt, &text[..n], table, room, second)
 }
