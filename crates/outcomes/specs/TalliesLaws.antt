@@ -41,11 +41,12 @@ next_word ts at j e h = let f : suc at ≡ j = omega arith in drop-cons ts at 0 
 words_at : (ts : List ℕ) (at : ℕ) → at + 4 ≤ length ts
     → take 4 (drop at ts) ≡ get_or ts at 0 ∷ get_or ts (at + 1) 0 ∷ get_or ts (at + 2) 0 ∷ get_or ts (at + 3) 0 ∷ []
 words_at ts at h =
-    rw
-    (next_word ts at (at + 1) refl (omega arith),
-     next_word ts (at + 1) (at + 2) (omega arith) (omega arith),
-     next_word ts (at + 2) (at + 3) (omega arith) (omega arith),
-     next_word ts (at + 3) (at + 4) (omega arith) (omega arith))
+    rw (
+      next_word ts at (at + 1) refl (omega arith),
+      next_word ts (at + 1) (at + 2) (omega arith) (omega arith),
+      next_word ts (at + 2) (at + 3) (omega arith) (omega arith),
+      next_word ts (at + 3) (at + 4) (omega arith) (omega arith),
+    )
     refl
 
 -- an outcome's four words, compared with a key's
@@ -96,7 +97,7 @@ words_put ts (a ∷ b ∷ c ∷ d ∷ []) at n e h l =
     let e3 : suc (at + 2) ≡ at + 3 = omega arith in
     let e4 : suc (at + 3) ≡ at + 4 = omega arith in
     let all : sets ts (at + 1) (a ∷ b ∷ c ∷ d ∷ []) ≡ put_mid (at + 1) 4 ts (a ∷ b ∷ c ∷ d ∷ []) =
-      sets-eq (a ∷ b ∷ c ∷ d ∷ []) ts (at + 1) (omega arith) ∙ rw (append_assoc, drop-drop) refl in
+    sets-eq (a ∷ b ∷ c ∷ d ∷ []) ts (at + 1) (omega arith) ∙ rw (append_assoc, drop-drop) refl in
     rw e (sym all ∙ rw (e2, e3, e4) refl)
 words_put ts (a ∷ b ∷ c ∷ d ∷ x ∷ xs) at n e h l = absurd (omega arith)
 
@@ -121,7 +122,7 @@ place_is ts key (suc rest) i = by (has_key ts i key) refl (place_is ts key rest 
 -- what is found among the first n outcomes
 pub place_found : (ts : List ℕ) (key : Key) (n : ℕ) (r : Option ℕ)
     → r ≡ cond (ltb (position_or_len (λ j. has_key ts j key) (range_with_len 0 n)) (length (range_with_len 0 n)))
-      (Some (position_or_len (λ j. has_key ts j key) (range_with_len 0 n))) None
+    (Some (position_or_len (λ j. has_key ts j key) (range_with_len 0 n))) None
     → MatchOption r (n ≤ place_from n ts 0 key) (λ i. (i ≡ place_from n ts 0 key) × (i < n))
 place_found ts key n r e = rw e (by (ltb at (length (range_with_len 0 n))) refl)
   where
@@ -130,9 +131,10 @@ place_found ts key n r e = rw e (by (ltb at (length (range_with_len 0 n))) refl)
 
     by : (b : Bool) → ltb at (length (range_with_len 0 n)) ≡ b
         → MatchOption (cond b (Some at) None) (n ≤ place_from n ts 0 key) (λ i. (i ≡ place_from n ts 0 key) × (i < n))
-    by true f =
-        (omega (arith, place_is ts key n 0),
-         omega (arith, ltb-true at (length (range_with_len 0 n)) f, length-range_with_len 0 n))
+    by true f = (
+      omega (arith, place_is ts key n 0),
+      omega (arith, ltb-true at (length (range_with_len 0 n)) f, length-range_with_len 0 n),
+    )
     by false f = omega (arith, place_is ts key n 0, ltb-false at (length (range_with_len 0 n)) f, length-range_with_len 0 n)
 
 module _ (n : ℕ) (ts : List ℕ) (key : Key) where

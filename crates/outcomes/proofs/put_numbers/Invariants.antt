@@ -1,14 +1,8 @@
-use Prim.Native.Nat.{◌-◌, ◌≤◌}
-use mathlib.Core.Path.{◌≡◌}
-use lib.ListN.{length}
-use Rattle.loglines.specs.Ink.{ink}
+use Rattle.std.proofs.Common.{◌-◌}
 use Rattle.outcomes.specs.Lines.{numbers_text}
+use Rattle.outcomes.specs.LinesLaws.{Writing}
 use Rattle.outcomes.proofs.put_numbers.Given as goal
 
 abbrev pub invariant-loop-j : goal.invariant-loop-j
 invariant-loop-j l =
-    (l.j ≤ 16) × (length l.room ≡ length l.initial.room)
-    × (ink (l.initial.next, l.initial.room) (numbers_text 16 l.tallies l.key 0 l.queues 0) ≡ ink (l.next, l.room) (numbers_text (16 - l.j) l.tallies l.key l.j l.queues l.q))
-
-abbrev pub decreases-loop-j : goal.decreases-loop-j
-decreases-loop-j l = 16 - l.j
+    Writing l.initial.pen l.pen (numbers_text 16 l.tallies l.key 0 l.queues 0) (numbers_text (16 - l.j) l.tallies l.key l.j l.queues l.q)

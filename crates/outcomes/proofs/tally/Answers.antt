@@ -11,4 +11,4 @@ returns c =
     let is = c.in-Some.ensures in
     let outcome = ap (λ (x : Notes). x.1) (rw (is.0, is.1, is.2) at c.outcome-notes.ensures) in
     λ f. c.count.ensures
-      ∙ tallied_is _ _ _ _ _ _ _ _ _ (omega arith) outcome c.key.ensures c.table_words-n.ensures.value f.sized f.table
+    ∙ tallied_is _ _ _ _ _ _ _ _ _ (omega arith) outcome c.key.ensures c.table_words-n.ensures.value f.sized f.table
