@@ -159,7 +159,7 @@ impl Notes {
     {
         let mut nodes = [0u16; 6];
         if let Counted::Are(m) = asks::listing(t, q, &mut nodes) {
-            for x in nodes.iter().take(words::wide(m)) {
+            for x in nodes.iter().take(usize::from(m)) {
                 self.put(*x);
             }
         }
@@ -217,9 +217,9 @@ impl Trial<'_> {
         ensures upper_bound { result ≤ all }
     {
         let n = words::words_of(Sizes {
-            levels: words::wide(self.levels),
-            queues: words::wide(self.queues),
-            nodes: words::wide(self.nodes),
+            levels: usize::from(self.levels),
+            queues: usize::from(self.queues),
+            nodes: usize::from(self.nodes),
         });
         n.min(all)
     }

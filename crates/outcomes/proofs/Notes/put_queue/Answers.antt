@@ -12,9 +12,9 @@ pub returns : goal.returns
 returns c =
     elim c.match-listing.branch [
       | in-Are+in-None w ↦
-          let all = YieldsList-end (YieldsList-from_take w.wide.result (YieldsList-from_slice c.listing.new.room (cc)) (cc)) w.loop-x.yielded _
+          let all = YieldsList-end (YieldsList-from_take w.from.result (YieldsList-from_slice c.listing.new.room (cc)) (cc)) w.loop-x.yielded _
           w.loop-x.yielded_by _ _ w.in-None.is w.next.ensures.steps in
-          let nodes = rw w.wide.ensures at all.0 in
+          let nodes = rw w.from.ensures at all.0 in
           let noted = rw (nodes, ← w.self-is) at w.loop-x.invariant in
           rw (queue_listed _ _ _ _ (rw w.in-Are.is at c.listing.ensures)) (note_last _ _ _ noted c.put-2.ensures)
       | in_default w ↦ rw (queue_unlisted _ _ _ _ (rw w.in_default.is at c.listing.ensures)) (note_only _ _ (rw w.self-is at c.put-2.ensures))
