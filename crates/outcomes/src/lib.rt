@@ -200,13 +200,16 @@ fn word_of(numbers: &[u16], i: usize) -> u64
         + (u64::from(numbers[i + 3]) << 48)
 }
 
-// A schedule on a fresh table of these sizes.
+// A schedule on a fresh table of these sizes: path[i] steps are taken before operation i of the k begins, and path[k] after the last.
+// kept: the operations are not a Schedule, which says that they fit: tally takes those that do not fit too, and counts none of them.
 #[derive(Clone, Copy)]
-struct Trial<'a> {
-    levels: u16,
-    queues: u16,
-    nodes: u16,
-    schedule: Schedule<'a>,
+pub struct Trial<'a> {
+    pub levels: u16,
+    pub queues: u16,
+    pub nodes: u16,
+    pub ops: &'a [u16],
+    pub k: usize,
+    pub path: [u16; 7],
 }
 
 impl Trial<'_> {
@@ -225,16 +228,34 @@ impl Trial<'_> {
     }
 
     // Replays the schedule from a fresh table, and notes its outcome.
-    fn outcome(&self, t: &mut [u16]) -> Notes
-        ensures { (note (0, replicate 16 0) (outcome_from self.now.queues self.now.schedule.ops.now self.now.schedule.k self.now.schedule.path
+    fn outcome(&self, schedule: &Schedule, t: &mut [u16]) -> Notes
+        ensures { (note (0, replicate 16 0) (outcome_from self.now.queues schedule.now.ops.now schedule.now.k schedule.now.path
             (fresh_of (sizes self.now.levels self.now.queues self.now.nodes) t.old).1)) ≡ result }
     {
         let mut notes = Notes::new();
         fresh::fresh_table(t, self.levels, self.queues, self.nodes);
-        notes.replay(t, &self.schedule);
+        notes.replay(t, schedule);
         notes.put(MARK);
         notes.put_queues(t, self.queues);
         notes
+    }
+
+    // Counts the schedule. The words t are lent for the table. Tallies that are too short stay as they were. Of operations that do not
+    // fit, of sizes that are refused and of too few words t the contract says nothing; no operations that do not fit are counted.
+    pub fn tally(&self, t: &mut [u16], tallies: &mut [u64])
+        ensures { Fitting (sizes self.now.levels self.now.queues self.now.nodes) t.old self.now.ops.now self.now.k
+            → tallies.new
+            ≡ tallied (sizes self.now.levels self.now.queues self.now.nodes) self.now.ops.now self.now.k self.now.path tallies.old }
+    {
+        if tallies.len() < TALLIES {
+            return;
+        }
+        let Some(schedule) = Schedule::of(self.ops, self.path, self.k) else {
+            return;
+        };
+        let n = self.table_words(t.len());
+        let notes = self.outcome(&schedule, &mut t[..n]);
+        count(tallies, &notes.key());
     }
 }
 
@@ -294,40 +315,6 @@ fn count(tallies: &mut [u64], key: &[u64; 4])
         None if n < KEPT => add_entry(tallies, n, key),
         None => add_one(tallies, 1),
     }
-}
-
-// Counts the schedule of these k operations, four words each, with path[i] steps before operation i begins and path[k] after the last.
-// The words t are lent for the table. Tallies that are too short stay as they were. Of operations that do not fit, of sizes that are
-// refused and of too few words t the contract says nothing; no operations that do not fit are counted.
-// kept: no Schedule comes in, since it takes operations that do not fit too.
-pub fn tally(
-    t: &mut [u16],
-    levels: u16,
-    queues: u16,
-    nodes: u16,
-    ops: &[u16],
-    k: usize,
-    path: [u16; 7],
-    tallies: &mut [u64],
-)
-    ensures { Fitting (sizes levels queues nodes) t.old ops.now k
-        → tallies.new ≡ tallied (sizes levels queues nodes) ops.now k path tallies.old }
-{
-    if tallies.len() < TALLIES {
-        return;
-    }
-    let Some(schedule) = Schedule::of(ops, path, k) else {
-        return;
-    };
-    let trial = Trial {
-        levels,
-        queues,
-        nodes,
-        schedule,
-    };
-    let n = trial.table_words(t.len());
-    let notes = trial.outcome(&mut t[..n]);
-    count(tallies, &notes.key());
 }
 
 // Number j of a word's four.

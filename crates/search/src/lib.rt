@@ -8,6 +8,7 @@ ghost use Rattle.ways.specs.Forced.{TableOf};
 ghost use Rattle.search.specs.Walk.{sizes_of, entry_text, more, shut, noted, written, emitted, tailed, listing, Given, Roomy, Exploring};
 
 use entries::Schedule;
+use outcomes::Trial;
 use text::Opening;
 use ways::Tail;
 use words::Sizes;
@@ -162,16 +163,15 @@ fn emit(
     match what {
         What::Count => one_more(listed, 0),
         What::Tally => {
-            outcomes::tally(
-                copy,
-                asked.levels,
-                asked.queues,
-                asked.nodes,
+            let trial = Trial {
+                levels: asked.levels,
+                queues: asked.queues,
+                nodes: asked.nodes,
                 ops,
-                asked.operations,
+                k: asked.operations,
                 path,
-                tallies,
-            );
+            };
+            trial.tally(copy, tallies);
             one_more(listed, 0)
         }
         What::Measure => measure_entry(asked, ops, path, listed, room),

@@ -1,7 +1,7 @@
 use Rattle.std.proofs.Common.{ap, ◌∙◌, arith}
 use Rattle.outcomes.specs.Notes.{Notes}
 use Rattle.outcomes.specs.TalliesLaws.{tallied_is, tallied_short}
-use Rattle.outcomes.proofs.tally.Goals as goal
+use Rattle.outcomes.proofs.Trial.tally.Goals as goal
 
 pub returns-then-tallies-lt-TALLIES : goal.returns-then-tallies-lt-TALLIES
 returns-then-tallies-lt-TALLIES c = λ f. tallied_short _ _ _ _ _ c.if-tallies-lt-TALLIES.true
