@@ -1,6 +1,6 @@
 -- The steps until nothing runs, by a run that goes on where an operation ends.
 use Prim.Native.Nat.{ℕ, zero, suc, ◌+◌}
-use Rattle.std.specs.Prelude.{◌≡◌, refl, ◌⊎◌, cond, eqb}
+use Rattle.std.specs.Prelude.{◌≡◌, refl, ◌⊎◌, cond, eqb, Option, Some, None}
 use Rattle.std.proofs.Math.Path.{ap}
 use Rattle.std.proofs.Common.{◌∙◌, inl, inr}
 use mathlib.Core.List.{List}
@@ -9,28 +9,26 @@ use Rattle.answers.specs.Said.{Said, refused, says, Run, after, an_end, spent, n
 use Rattle.steps.specs.Step.{Out, step_sized, step_of}
 use Rattle.steps.specs.Whole.{whole_on, whole_from}
 use Rattle.steps.proofs.Singly.{Kept, step_kept, step_is}
-use Rattle.ways.specs.declared.Tail.{Tail}
-use Rattle.ways.specs.declared.Tail.TheVariants.{Ends, Cut}
 use Rattle.ways.specs.Schedules.{accepts, is_nine, stepped, idle}
 use Rattle.ways.specs.Forced.{end_in, TableOf}
 
 -- what such a run says
-unfoldable pub tail_of : Said Run → Tail
-tail_of (refused r) = Cut
-tail_of (says (after n (an_end e))) = Cut
-tail_of (says (after n spent)) = Cut
-tail_of (says (after n nothing_runs)) = Ends n
-tail_of (says (after n refusal_10)) = Cut
+unfoldable pub tail_of : Said Run → Option ℕ
+tail_of (refused r) = None
+tail_of (says (after n (an_end e))) = None
+tail_of (says (after n spent)) = None
+tail_of (says (after n nothing_runs)) = Some n
+tail_of (says (after n refusal_10)) = None
 
 -- n steps were taken, and what the next one gives
-abbrev end_on : ℕ → ℕ → Out → Tail
-end_on left n x = cond (accepts x.0) (end_in left (n + 1) x.1) (cond (is_nine x.0) (Ends n) Cut)
+abbrev end_on : ℕ → ℕ → Out → Option ℕ
+end_on left n x = cond (accepts x.0) (end_in left (n + 1) x.1) (cond (is_nine x.0) (Some n) None)
 
 end_step : (left n : ℕ) (t : List ℕ) → end_in (suc left) n t ≡ end_on left n (step_of t)
 unfolding end_in stepped idle
 end_step left n t = refl
 
-end_none : (n : ℕ) (t : List ℕ) → end_in 0 n t ≡ Cut
+end_none : (n : ℕ) (t : List ℕ) → end_in 0 n t ≡ None
 unfolding end_in
 end_none n t = refl
 

@@ -1,6 +1,6 @@
 -- A stretch on which the next operation is refused, by runs: it is refused until one that runs has ended.
 use Prim.Native.Nat.{ℕ, zero, suc, ◌+◌, ◌-◌, ◌≤◌}
-use Rattle.std.specs.Prelude.{◌≡◌, Bool, eqb}
+use Rattle.std.specs.Prelude.{◌≡◌, Bool, eqb, Option, None}
 use Rattle.std.proofs.Math.Path.{refl, ap}
 use Rattle.std.proofs.Common.{sym, ◌∙◌, zero-add, sub-one}
 use Rattle.std.proofs.Math.Bool.{true, false, cond}
@@ -17,8 +17,6 @@ use Rattle.steps.specs.Run.{ran_on, run_from}
 use Rattle.steps.proofs.Singly.{Kept, step_kept, stepped_kept}
 use Rattle.steps.proofs.After.{step_steady}
 use Rattle.ways.specs.declared.Op.{Op}
-use Rattle.ways.specs.declared.Tail.{Tail}
-use Rattle.ways.specs.declared.Tail.TheVariants.{Cut}
 use Rattle.ways.specs.Schedules.{accepts, Tried, stepped, begun}
 use Rattle.ways.specs.Forced.{stretched, gone_on, end_in, last_in, Open}
 use Rattle.ways.specs.Calls.{stepped_is, begun_steady}
@@ -130,12 +128,12 @@ gone_none o (suc left) t h = absurd (omega arith)
 
 -- ---- the last operation
 
-pub last_none : (o : Op) (left : ℕ) (t : List ℕ) → left ≡ 0 → last_in o left t ≡ Cut
+pub last_none : (o : Op) (left : ℕ) (t : List ℕ) → left ≡ 0 → last_in o left t ≡ None
 unfolding last_in
 last_none o zero t h = refl
 last_none o (suc left) t h = absurd (omega arith)
 
-pub last_begun : (o : Op) (left : ℕ) (t u : List ℕ) (x : Tail) → (left ≡ 0 → ⊥) → begun o t ≡ (true, u) → end_in (left - 1) 0 u ≡ x
+pub last_begun : (o : Op) (left : ℕ) (t u : List ℕ) (x : Option ℕ) → (left ≡ 0 → ⊥) → begun o t ≡ (true, u) → end_in (left - 1) 0 u ≡ x
     → last_in o left t ≡ x
 unfolding last_in
 last_begun o zero t u x h k e = absurd (h refl)

@@ -17,13 +17,6 @@ pub struct Op {
     pub node: Node,
 }
 
-// The steps until nothing runs, or Cut where that does not come.
-#[derive(Clone, Copy)]
-pub enum Tail {
-    Ends(u16),
-    Cut,
-}
-
 // Operation i of the words.
 pub fn op_in(ops: &[u16], i: usize) -> Op
     requires { (i < 6) × (4 * i + 4 ≤ length ops.now) }
@@ -138,17 +131,17 @@ pub fn go_on(t: &mut [u16], s: Sizes, o: Op, left: u16) -> u16
     }
 }
 
-// No operation remains: the steps until nothing runs.
-pub fn steps_left(t: &mut [u16], s: Sizes, left: u16) -> Tail
+// No operation remains: the steps until nothing runs, or None where that does not come.
+pub fn steps_left(t: &mut [u16], s: Sizes, left: u16) -> Option<u16>
     requires { TableOf s t.old }
     ensures { end_in left 0 t.old ≡ result }
 {
     match steps::run_out(t, s, left) {
-        Ran::Idle(k) => Tail::Ends(k),
-        Ran::Ended(_, _) => Tail::Cut,
-        Ran::Spent(_) => Tail::Cut,
-        Ran::Damaged(_) => Tail::Cut,
-        Ran::Refused(_) => Tail::Cut,
+        Ran::Idle(k) => Some(k),
+        Ran::Ended(_, _) => None,
+        Ran::Spent(_) => None,
+        Ran::Damaged(_) => None,
+        Ran::Refused(_) => None,
     }
 }
 
@@ -157,20 +150,16 @@ pub fn copy_words(from: &[u16], to: &mut [u16])
     requires { length to.old ≡ length from.now }
     ensures { to.new ≡ from.now }
 {
-    let mut i = 0;
-    while i < from.len() {
-        to[i] = from[i];
-        i += 1;
-    }
+    to.copy_from_slice(from);
 }
 
-// The last operation, which is accepted, begins on a copy of the table: the steps that follow it.
-pub fn try_last(t: &[u16], s: Sizes, copy: &mut [u16], o: Op, left: u16) -> Tail
+// The last operation, which is accepted, begins on a copy of the table: the steps that follow it, or None where they do not end.
+pub fn try_last(t: &[u16], s: Sizes, copy: &mut [u16], o: Op, left: u16) -> Option<u16>
     requires { (length copy.old ≡ length t.now) × TableOf s t.now × ((begun o t.now).0 ≡ true) }
     ensures { last_in o left t.now ≡ result }
 {
     if left == 0 {
-        return Tail::Cut;
+        return None;
     }
     copy_words(t, copy);
     put_begin(copy, s, o);

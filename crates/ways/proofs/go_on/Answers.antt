@@ -2,10 +2,6 @@ use Rattle.ways.specs.Stretches.{gone_none, gone_going, gone_ended, gone_refused
 use Rattle.steps.proofs.Singly.{stepped_kept}
 use mathlib.Core.Path.{◌∙◌}
 use native.Mathlib.Omega.{arith}
-use Rattle.ways.proofs.go_on.Reads as reads
-use Rattle.ways.proofs.go_on.Lts as lts
-use Rattle.steps.proofs.step_sized.Reads as step-sized-reads
-use Rattle.ways.proofs.stretch.Reads as stretch-reads
 use Rattle.ways.proofs.go_on.Goals as goal
 
 -- src/lib.rt:139:9

@@ -1,9 +1,5 @@
 use Rattle.ways.specs.Calls.{may_enqueue, may_dequeue, may_odd, may_none}
 use Rattle.words.specs.Laws.{measured_fits}
-use Rattle.ways.proofs.may_begin.Reads as reads
-use Rattle.ways.proofs.may_begin.Lts as lts
-use Rattle.begins.proofs.dequeue_why.Reads as dequeue-why-reads
-use Rattle.begins.proofs.enqueue_why.Reads as enqueue-why-reads
 use Rattle.ways.proofs.may_begin.Goals as goal
 
 -- src/lib.rt:88:16

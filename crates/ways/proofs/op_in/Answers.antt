@@ -1,7 +1,5 @@
 use mathlib.Core.Path.{refl}
 use Rattle.ways.specs.Schedules.{op_in}
-use Rattle.ways.proofs.op_in.Reads as reads
-use Rattle.ways.proofs.op_in.Lts as lts
 use Rattle.ways.proofs.op_in.Goals as goal
 
 -- src/lib.rt:76:1

@@ -1,7 +1,4 @@
 use Rattle.ways.specs.Runs.{tail_of, end_ran}
-use Rattle.ways.proofs.steps_left.Reads as reads
-use Rattle.ways.proofs.steps_left.Lts as lts
-use Rattle.steps.proofs.run_out.Reads as run-out-reads
 use Rattle.ways.proofs.steps_left.Goals as goal
 
 -- src/lib.rt:147:1

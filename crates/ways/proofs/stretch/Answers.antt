@@ -3,10 +3,6 @@ use Rattle.steps.proofs.Singly.{sized_ended_within, ran_kept}
 use native.Mathlib.Omega.{arith}
 use mathlib.Core.Path.{refl, sym, ◌∙◌}
 use borrow.Author.Rules.{rules}
-use Rattle.ways.proofs.stretch.Reads as reads
-use Rattle.ways.proofs.stretch.Lts as lts
-use Rattle.steps.proofs.run_sized.Reads as run-sized-reads
-use Rattle.ways.proofs.may_begin.Reads as may-begin-reads
 use Rattle.ways.proofs.stretch.Goals as goal
 
 -- src/lib.rt:104:5

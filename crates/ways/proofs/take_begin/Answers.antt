@@ -1,9 +1,5 @@
 use Rattle.ways.specs.Calls.{begun_unfit}
 use Rattle.words.specs.Laws.{told}
-use Rattle.ways.proofs.take_begin.Reads as reads
-use Rattle.ways.proofs.take_begin.Lts as lts
-use Rattle.ways.proofs.begin_sized.Reads as begin-sized-reads
-use Rattle.words.proofs.measure.Reads as measure-reads
 use Rattle.ways.proofs.take_begin.Goals as goal
 
 -- src/lib.rt:77:31
