@@ -1,7 +1,5 @@
 -- Decimal numbers 0 to 65,535 with no leading zero, as bytes; and fields: a number with the byte that ends it.
-use Rattle.std.specs.Prelude.{ℕ, zero, suc, ◌+◌, ◌-◌, ◌*◌, ◌/◌, ◌%◌, List, [], ◌∷◌, ◌++◌, Bool, cond, ◌&&◌, drop, ltb, leb, eqb}
-use Rattle.decimals.specs.declared.FieldRead.{FieldRead}
-use Rattle.decimals.specs.declared.FieldRead.TheVariants.{Number, Wrong}
+use Rattle.std.specs.Prelude.{ℕ, zero, suc, ◌+◌, ◌-◌, ◌*◌, ◌/◌, ◌%◌, List, [], ◌∷◌, ◌++◌, Bool, cond, ◌&&◌, drop, ltb, leb, eqb, Option, Some, None}
 
 -- how many digits a number has
 unfoldable pub width_of : ℕ → ℕ
@@ -32,18 +30,18 @@ unfoldable pub goes_on : ℕ → ℕ → Bool
 goes_on v b = is_digit b && ltb 0 v && leb (with_digit v b) 65535
 
 -- what a field is whose digits make v so far and whose other bytes, from place `at` on, are these
-unfoldable pub rest_in : ℕ → ℕ → ℕ → List ℕ → FieldRead
-rest_in end v at [] = Wrong
+unfoldable pub rest_in : ℕ → ℕ → ℕ → List ℕ → Option (ℕ × ℕ)
+rest_in end v at [] = None
 rest_in end v at (b ∷ s) =
-    cond (goes_on v b) (rest_in end (with_digit v b) (suc at) s) (cond (eqb b end) (Number v (suc at)) Wrong)
+    cond (goes_on v b) (rest_in end (with_digit v b) (suc at) s) (cond (eqb b end) (Some (v, suc at)) None)
 
 -- the field at a place: a digit and what goes on with it, up to the byte that ends it
-unfoldable pub field_in : ℕ → ℕ → List ℕ → FieldRead
-field_in end at [] = Wrong
-field_in end at (b ∷ s) = cond (is_digit b) (rest_in end (b - 48) (suc at) s) Wrong
+unfoldable pub field_in : ℕ → ℕ → List ℕ → Option (ℕ × ℕ)
+field_in end at [] = None
+field_in end at (b ∷ s) = cond (is_digit b) (rest_in end (b - 48) (suc at) s) None
 
-unfoldable pub field_at : ℕ → List ℕ → ℕ → FieldRead
+unfoldable pub field_at : ℕ → List ℕ → ℕ → Option (ℕ × ℕ)
 field_at end text place = field_in end place (drop place text)
 
-unfoldable pub rest_of : ℕ → List ℕ → ℕ → ℕ → FieldRead
+unfoldable pub rest_of : ℕ → List ℕ → ℕ → ℕ → Option (ℕ × ℕ)
 rest_of end text v place = rest_in end v place (drop place text)

@@ -1,7 +1,6 @@
 -- Reading a field and writing one are inverse: `field_reads` of proofs/ReadBack and `field_written`.
-use Rattle.std.specs.Prelude.{ℕ, zero, suc, ◌+◌, ◌-◌, ◌*◌, ◌/◌, ◌%◌, ◌≤◌, ◌<◌, ◌≡◌, refl, ◌⊎◌, List, [], ◌∷◌, ◌++◌, Bool, true, false, cond, length, drop, ltb}
+use Rattle.std.specs.Prelude.{ℕ, zero, suc, ◌+◌, ◌-◌, ◌*◌, ◌/◌, ◌%◌, ◌≤◌, ◌<◌, ◌≡◌, refl, ◌⊎◌, List, [], ◌∷◌, ◌++◌, Bool, true, false, cond, length, drop, ltb, Some}
 use Rattle.std.proofs.Common.{sym, ap, ◌∙◌, inl, inr, append_assoc, arith, add-one, ltb-true, ltb-false, lt-ltb, le-ltb, le-leb, eq-eqb}
-use Rattle.decimals.specs.declared.FieldRead.TheVariants.{Number}
 use Rattle.decimals.specs.Decimals.{width_of, last_digits, digits_of, field_of, is_digit, with_digit, goes_on, rest_in, field_in, field_at}
 use Rattle.decimals.specs.Laws.{digits_one, length_field, Digit}
 
@@ -81,9 +80,9 @@ field_run (suc k) end at n t h top = by (below? n 10) (field_run k end at (n / 1
 
 -- a number's digits and the byte that ends it are read as that field
 pub field_written : (end : ℕ) (text rest : List ℕ) (at n : ℕ) → n ≤ 65535 → is_digit end ≡ false → drop at text ≡ field_of n end ++ rest
-    → field_at end text at ≡ Number n (at + length (field_of n end))
+    → field_at end text at ≡ Some (n, at + length (field_of n end))
 unfolding field_at rest_in goes_on field_of
 field_written end text rest at n top d e =
-    let ends : rest_in end n (at + width_of n) (end ∷ rest) ≡ Number n (suc (at + width_of n)) = simp (d, eq-eqb end end refl) in
+    let ends : rest_in end n (at + width_of n) (end ∷ rest) ≡ Some (n, suc (at + width_of n)) = simp (d, eq-eqb end end refl) in
     let l : suc (at + width_of n) ≡ at + length (field_of n end) = omega (arith, length_field n end) in
-    rw e (rw append_assoc (field_run n end at n (end ∷ rest) (omega arith) top ∙ ends ∙ ap (λ (k : ℕ). Number n k) l))
+    rw e (rw append_assoc (field_run n end at n (end ∷ rest) (omega arith) top ∙ ends ∙ ap (λ (k : ℕ). Some (n, k)) l))

@@ -1,11 +1,10 @@
 -- What the proofs of reading and writing numbers cite.
-use Rattle.std.specs.Prelude.{ℕ, zero, suc, ◌+◌, ◌-◌, ◌/◌, ◌%◌, ◌≤◌, ◌<◌, ◌≡◌, refl, List, [], ◌∷◌, Bool, true, false, cond, ◌&&◌, length, set, get_or, ltb, leb, eqb}
+use Rattle.std.specs.Prelude.{ℕ, zero, suc, ◌+◌, ◌-◌, ◌/◌, ◌%◌, ◌≤◌, ◌<◌, ◌≡◌, refl, List, [], ◌∷◌, Bool, true, false, cond, ◌&&◌, length, set, get_or, ltb, leb, eqb, Some, None}
 use Rattle.std.proofs.Common.{ap, ◌∙◌, arith, add-one, sub-one, length-append, drop_of_length-le, drop-cons, ltb-true, leb-true, lt-ltb, le-ltb}
 use Rattle.std.proofs.Math.Bool.{and-eq-true_iff}
 use Rattle.std.proofs.lemmas.List.Edits.{sets}
 use Rattle.std.proofs.lemmas.List.{set_comm}
 use Rattle.heads.specs.Laws.{sets_append}
-use Rattle.decimals.specs.declared.FieldRead.TheVariants.{Number, Wrong}
 use Rattle.decimals.specs.Decimals.{width_of, last_digits, digits_of, field_of, is_digit, with_digit, goes_on, rest_in, rest_of, field_in, field_at}
 
 -- a store past a run of stores may come first
@@ -56,7 +55,7 @@ digits_two n l h = let e : n / 10 % 10 ≡ n / 10 = omega arith in simp (le-ltb 
 pub rest_cons : (end : ℕ) (text : List ℕ) (n at : ℕ) → at < length text
     → rest_of end text n at
     ≡ cond (goes_on n (get_or text at 0)) (rest_of end text (with_digit n (get_or text at 0)) (at + 1))
-    (cond (eqb (get_or text at 0) end) (Number n (at + 1)) Wrong)
+    (cond (eqb (get_or text at 0) end) (Some (n, at + 1)) None)
 unfolding rest_of rest_in
 rest_cons end text n at h = rw (drop-cons text at 0, add-one)
 
@@ -84,11 +83,11 @@ goes_on_is n b h =
     record { low = d.low; high = d.high; after = ltb-true 0 n two.1; fits = leb-true (with_digit n b) 65535 three.1 }
 
 pub field_cons : (end : ℕ) (text : List ℕ) (at : ℕ) → at < length text
-    → field_at end text at ≡ cond (is_digit (get_or text at 0)) (rest_of end text (get_or text at 0 - 48) (at + 1)) Wrong
+    → field_at end text at ≡ cond (is_digit (get_or text at 0)) (rest_of end text (get_or text at 0 - 48) (at + 1)) None
 unfolding field_at field_in rest_of
 field_cons end text at h = rw (drop-cons text at 0, add-one)
 
-pub field_none : (end : ℕ) (text : List ℕ) (at : ℕ) → length text ≤ at → field_at end text at ≡ Wrong
+pub field_none : (end : ℕ) (text : List ℕ) (at : ℕ) → length text ≤ at → field_at end text at ≡ None
 unfolding field_at field_in
 field_none end text at h = rw (drop_of_length-le text {i = at} h)
 
@@ -102,3 +101,6 @@ width_top n = by (ltb n 10) (ltb n 100) (ltb n 1000) (ltb n 10000)
     by false false true d = omega arith
     by false false false true = omega arith
     by false false false false = omega arith
+
+-- what the writing of numbers goes by
+pub ruleset writes = (digits_one, digits_two, length_digits, length_field, last_first, last_none)

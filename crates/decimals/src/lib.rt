@@ -13,23 +13,11 @@ ghost use Rattle.decimals.specs.Decimals.{
   field_at,
 };
 
-// What stands at a place: a number, with the place after the byte that ends it, or no such field.
-#[derive(Clone, Copy)]
-pub enum FieldRead {
-    Number(u16, usize),
-    Wrong,
-}
-
-fn wide(b: u8) -> usize
-    ensures { result ≡ b }
-{
-    b as usize
-}
-
+#[tactic(auto, unfolding(crate::specs::Decimals::is_digit))]
 fn is_digit(b: u8) -> bool
     ensures { result ≡ is_digit b }
 {
-    if 48 <= b { b <= 57 } else { false }
+    b'0' <= b && b <= b'9'
 }
 
 #[tactic(auto, using(crate::specs::Laws::digit_is), unfolding(crate::specs::Decimals::goes_on))]
@@ -37,80 +25,61 @@ fn goes_on(v: usize, b: u8) -> bool
     requires { v ≤ 65535 }
     ensures { result ≡ goes_on v b }
 {
-    if is_digit(b) {
-        if 0 < v {
-            v * 10 + (wide(b) - 48) <= 65535
-        } else {
-            false
-        }
-    } else {
-        false
-    }
+    is_digit(b) && 0 < v && v * 10 + usize::from(b - b'0') <= 65535
 }
 
 // The field whose digits before place make v.
-fn read_rest(text: &[u8], place: usize, end: u8, v: usize) -> FieldRead
+#[tactic(auto, using(crate::proofs::ReadBack::reads))]
+fn read_rest(text: &[u8], place: usize, end: u8, v: usize) -> Option<(u16, usize)>
     requires { (place ≤ length text.now) × (v ≤ 65535) }
     ensures { result ≡ rest_of end text.now v place }
 {
-    let mut at = place;
     let mut n = v;
-    while at < text.len() {
+    for at in place..text.len() {
         let b = text[at];
-        if goes_on(n, b) {
-            n = n * 10 + (wide(b) - 48);
-            at += 1;
-        } else {
-            if b == end {
-                return FieldRead::Number(n as u16, at + 1);
-            } else {
-                return FieldRead::Wrong;
-            }
+        if !goes_on(n, b) {
+            return (b == end).then_some((n as u16, at + 1));
         }
+        n = n * 10 + usize::from(b - b'0');
     }
-    FieldRead::Wrong
+    None
 }
 
-pub fn read_field(text: &[u8], place: usize, end: u8) -> FieldRead
+// The number whose digits stand at a place, with the place after the byte that ends it.
+#[tactic(auto, using(crate::proofs::ReadBack::reads))]
+pub fn read_field(text: &[u8], place: usize, end: u8) -> Option<(u16, usize)>
     ensures { result ≡ field_at end text.now place }
 {
-    if place < text.len() {
-        let b = text[place];
-        if is_digit(b) {
-            read_rest(text, place + 1, end, wide(b) - 48)
-        } else {
-            FieldRead::Wrong
-        }
-    } else {
-        FieldRead::Wrong
+    let b = *text.get(place)?;
+    if !is_digit(b) {
+        return None;
     }
+    read_rest(text, place + 1, end, usize::from(b - b'0'))
 }
 
 // How many digits n has.
+#[tactic(auto, unfolding(crate::specs::Decimals::width_of))]
 pub fn width(n: usize) -> usize
     ensures { result ≡ width_of n }
 {
-    if n < 10 {
-        1
-    } else if n < 100 {
-        2
-    } else if n < 1000 {
-        3
-    } else if n < 10000 {
-        4
-    } else {
-        5
+    match n {
+        0..=9 => 1,
+        10..=99 => 2,
+        100..=999 => 3,
+        1000..=9999 => 4,
+        _ => 5,
     }
 }
 
 fn digit(n: usize) -> u8
     ensures { result ≡ 48 + n % 10 }
 {
-    48 + (n % 10) as u8
+    b'0' + (n % 10) as u8
 }
 
 // Writes n's digits from place on and answers the place after them: one or two at once, as most numbers of a text
 // have no more, and more of them the last one first.
+#[tactic(auto, using(crate::specs::Laws::writes))]
 pub fn write_digits(room: &mut [u8], place: usize, n: usize) -> usize
     requires { place + length (digits_of n) ≤ length room.old }
     ensures { Put result room.new room.old place (digits_of n) }
@@ -125,21 +94,20 @@ pub fn write_digits(room: &mut [u8], place: usize, n: usize) -> usize
         return place + 2;
     }
     let w = width(n);
-    let mut left = w;
     let mut m = n;
-    while 0 < left {
-        left -= 1;
+    for left in (0..w).rev() {
         room[place + left] = digit(m);
-        m = m / 10;
+        m /= 10;
     }
     place + w
 }
 
+#[tactic(auto, using(crate::specs::Laws::writes))]
 pub fn write_field(room: &mut [u8], place: usize, n: u16, end: u8) -> usize
     requires { place + length (field_of n end) ≤ length room.old }
     ensures { Put result room.new room.old place (field_of n end) }
 {
-    let at = write_digits(room, place, n as usize);
+    let at = write_digits(room, place, usize::from(n));
     room[at] = end;
     at + 1
 }

@@ -33,13 +33,13 @@ sets_all r h p i q = rw (drop_of_length-le h {i = i} q)
 begins_is : (h s : List ℕ) → begins h s ≡ true → s ≡ h ++ drop (length h) s
 unfolding begins
 begins_is [] s e = refl
-begins_is (h ∷ hs) [] e = let z : ◌≡◌ {A = ℕ} 0 1 = cc in absurd (omega arith)
+begins_is (h ∷ hs) [] e = cc
 begins_is (h ∷ hs) (b ∷ s) e = by (eqb b h) refl e (begins_is hs s)
   where
     by : (t : Bool) → eqb b h ≡ t → (t && begins hs s) ≡ true → (begins hs s ≡ true → s ≡ hs ++ drop (length hs) s)
         → b ∷ s ≡ h ∷ (hs ++ drop (length hs) s)
     by true f g ih = let x = eqb-true b h f in let y = ih g in cc
-    by false f g ih = let z : ◌≡◌ {A = ℕ} 0 1 = cc in absurd (omega arith)
+    by false f g ih = cc
 
 begins_own : (h s : List ℕ) → begins h (h ++ s) ≡ true
 unfolding begins

@@ -8,21 +8,7 @@ ghost use Rattle.heads.specs.Put.{Put};
 pub fn stands_at(text: &[u8], place: usize, head: &[u8]) -> bool
     ensures { result ≡ stands_at head.now text.now place }
 {
-    let mut i = 0;
-    let mut at = place;
-    while i < head.len() {
-        if at < text.len() {
-            if text[at] == head[i] {
-                i += 1;
-                at += 1;
-            } else {
-                return false;
-            }
-        } else {
-            return false;
-        }
-    }
-    true
+    text.get(place..).unwrap_or(&[]).starts_with(head)
 }
 
 // Writes head from place on, and answers the place after it.
@@ -30,10 +16,7 @@ pub fn write_head(room: &mut [u8], place: usize, head: &[u8]) -> usize
     requires { place + length head.now ≤ length room.old }
     ensures { Put result room.new room.old place head.now }
 {
-    let mut i = 0;
-    while i < head.len() {
-        room[place + i] = head[i];
-        i += 1;
-    }
-    place + i
+    let next = place + head.len();
+    room[place..next].copy_from_slice(head);
+    next
 }

@@ -54,3 +54,6 @@ opening_top o =
       field_top o.nodes lf,
       field_top o.events lf,
     )
+
+-- what the functions' proofs go by
+pub ruleset lengths = (enqueue_length, dequeue_length, steps_length, opening_length, length_field, width_top)

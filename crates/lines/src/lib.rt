@@ -10,12 +10,14 @@ use text::{Event, LF, Opening, SPACE};
 use words::{Level, Node, Queue};
 
 // How many bytes a number and the byte after it take.
+#[tactic(auto, using(crate::specs::Laws::lengths))]
 fn field_length(n: u16) -> usize
     ensures { (result ≡ width_of n + 1) × (result ≤ 6) }
 {
-    decimals::width(n as usize) + 1
+    decimals::width(usize::from(n)) + 1
 }
 
+#[tactic(auto, using(crate::specs::Laws::lengths))]
 pub fn event_length(e: Event) -> usize
     ensures { (result ≡ length (event_text e)) × (result ≤ 20) }
 {
@@ -26,6 +28,7 @@ pub fn event_length(e: Event) -> usize
     }
 }
 
+#[tactic(auto, using(crate::specs::Laws::lengths), unfolding(text::specs::Text::event_text))]
 fn write_enqueue(room: &mut [u8], place: usize, l: Level, q: Queue, n: Node) -> usize
     requires { place + length (event_text (Event.Enqueue l q n)) ≤ length room.old }
     ensures { Put result room.new room.old place (event_text (Event.Enqueue l q n)) }
@@ -36,6 +39,7 @@ fn write_enqueue(room: &mut [u8], place: usize, l: Level, q: Queue, n: Node) -> 
     decimals::write_field(room, node, n.0, LF)
 }
 
+#[tactic(auto, using(crate::specs::Laws::lengths), unfolding(text::specs::Text::event_text))]
 fn write_dequeue(room: &mut [u8], place: usize, l: Level, q: Queue) -> usize
     requires { place + length (event_text (Event.Dequeue l q)) ≤ length room.old }
     ensures { Put result room.new room.old place (event_text (Event.Dequeue l q)) }
@@ -45,6 +49,7 @@ fn write_dequeue(room: &mut [u8], place: usize, l: Level, q: Queue) -> usize
     decimals::write_field(room, queue, q.0, LF)
 }
 
+#[tactic(auto, using(crate::specs::Laws::lengths), unfolding(text::specs::Text::event_text))]
 fn write_steps(room: &mut [u8], place: usize, count: u16) -> usize
     requires { place + length (event_text (Event.Steps count)) ≤ length room.old }
     ensures { Put result room.new room.old place (event_text (Event.Steps count)) }
@@ -65,6 +70,7 @@ pub fn write_event(room: &mut [u8], place: usize, e: Event) -> usize
     }
 }
 
+#[tactic(auto, using(crate::specs::Laws::lengths))]
 pub fn opening_length(o: Opening) -> usize
     ensures { (result ≡ length (opening_text o)) × (result ≤ 26) }
 {
@@ -75,6 +81,7 @@ pub fn opening_length(o: Opening) -> usize
 }
 
 // Writes the first five lines at place, and answers the place after them.
+#[tactic(auto, using(crate::specs::Laws::lengths), unfolding(text::specs::Text::opening_text))]
 pub fn write_opening(room: &mut [u8], place: usize, o: Opening) -> usize
     requires { place + length (opening_text o) ≤ length room.old }
     ensures { Put result room.new room.old place (opening_text o) }

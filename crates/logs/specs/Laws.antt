@@ -12,7 +12,7 @@ use Rattle.text.specs.declared.Event.{Event}
 use Rattle.text.specs.Answer.{Answer, gives, refuses, onto}
 use Rattle.text.specs.Reading.{sizes_reading, end_reading}
 use Rattle.text.specs.Laws.{onto_is, given_is}
-use Rattle.schedule.specs.Whole.{events_reading, schedule_reading, rest_reading, check_reading}
+use Rattle.schedule.specs.Whole.{rest_by, check_by, events_reading, schedule_reading, rest_reading, check_reading}
 use Rattle.asks.specs.Listing.{listing_of}
 use Rattle.loglines.specs.Lines.{text_line, sizes_line, queue_line, unquiet_line}
 use Rattle.loglines.specs.declared.Pen.{Pen}
@@ -101,7 +101,7 @@ pub record Right (text : List ℕ) (o : Opening) (place : ℕ) : Type 0 where
   pub whole : schedule_reading text ≡ gives (o, events)
 
 pub check_right : (text : List ℕ) (o : Opening) (place : ℕ) → check_reading text ≡ gives (o, place) → Right text o place
-unfolding check_reading rest_reading schedule_reading
+unfolding check_by rest_by schedule_reading
 check_right text o place h =
     let a = onto_is (sizes_reading text) _ (o, place) h in
     let b = onto_is (rest_reading a.0.0.events text a.0.1) _ (o, place) a.2 in
@@ -116,7 +116,7 @@ refuses_same : {A B : Type 0} (n m : ℕ) (vs ws : List ℕ) → ◌≡◌ {A = 
 refuses_same n m vs ws e = let f : n ≡ m = cc in let g : vs ≡ ws = cc in rw (f, g)
 
 pub check_wrong : (text : List ℕ) (n : ℕ) (vs : List ℕ) → check_reading text ≡ refuses n vs → schedule_reading text ≡ refuses n vs
-unfolding check_reading rest_reading schedule_reading
+unfolding check_by rest_by schedule_reading
 check_wrong text n vs h = by (sizes_reading text) h
   where
     last : (o : Opening × ℕ) (es : List Event × ℕ) (a : Answer (Unit {0})) → ◌≡◌ {A = Answer (Opening × ℕ)} (onto a (λ _. gives o)) (refuses n vs)

@@ -19,7 +19,7 @@ ghost use Rattle.logs.specs.Parts.{placed_log};
 
 use answers::{Counted, Done};
 use loglines::Pen;
-use text::{Opening, SizesRead};
+use text::{BadLine, Opening};
 use words::Queue;
 
 // The log as it is, or the bounds log: the bound on its steps stands last in each E line.
@@ -101,8 +101,8 @@ fn write_whole(kind: Kind, text: &[u8], table: &mut [u16], pen: &mut Pen)
     ensures { Plays pen.old pen.new (log_text kind text.now table.old) table.new }
 {
     match schedule::check_text(text) {
-        SizesRead::Read(o, place) => write_played(kind, text, place, o, table, pen),
-        SizesRead::Refused(line) => pen.put_text_refusal(line),
+        Ok((o, place)) => write_played(kind, text, place, o, table, pen),
+        Err(BadLine(line)) => pen.put_text_refusal(line),
     }
 }
 

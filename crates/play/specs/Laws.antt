@@ -12,7 +12,7 @@ use Rattle.text.specs.Answer.{gives, refuses}
 use Rattle.text.specs.Reading.{event_reading}
 use Rattle.text.specs.Laws.{onto_is, given_is}
 use Rattle.steps.specs.Run.{run_of}
-use Rattle.schedule.specs.Whole.{events_reading}
+use Rattle.schedule.specs.Whole.{events_by, events_reading}
 use Rattle.loglines.specs.Lines.{refusal_line}
 use Rattle.loglines.specs.Ink.{Page, ink}
 use Rattle.loglines.specs.Laws.{ink_append, ink_then}
@@ -118,7 +118,7 @@ follow_same i f g (lines, (refused r, t)) h = refl
 
 pub place_events : (line : End → List ℕ) (k i : ℕ) (text : List ℕ) (place next : ℕ) (es : List Event) (t : List ℕ)
     → events_reading k text place ≡ gives (es, next) → at_place line k i text place t ≡ events_of line i es t
-unfolding events_reading at_place events_of
+unfolding events_by at_place events_of
 place_events line zero i text place next es t h =
     let x = given_is [] es place next h in ap (λ (l : List Event). events_of line i l t) x.0
 place_events line (suc k) i text place next es t h =

@@ -8,7 +8,7 @@ ghost use Rattle.play.specs.Parts.{Plays, at_place};
 
 use answers::{Done, Ran};
 use loglines::Pen;
-use text::{Event, EventRead};
+use text::Event;
 
 fn play_steps(table: &mut [u16], pen: &mut Pen, count: u16, bound_nodes: Option<u16>) -> Done
     ensures { Plays pen.old pen.new (steps_of (line_of bound_nodes) count table.old) (done_says result, table.new) }
@@ -53,7 +53,7 @@ pub fn play_events(
 {
     let mut at = place;
     for i in 0..count {
-        let EventRead::Read(e, after) = reader::event_at(text, at) else {
+        let Ok((e, after)) = reader::event_at(text, at) else {
             return;
         };
         at = after;

@@ -2,9 +2,9 @@
 #![tactic(auto)]
 
 ghost use Rattle.std.specs.Prelude.{◌≡◌};
-ghost use Rattle.text.specs.Reading.{event_reading, event_answer};
+ghost use Rattle.text.specs.Reading.{event_reading, line_answer};
 
-use text::EventRead;
+use text::{BadLine, Event};
 
 #[derive(Clone, Copy)]
 pub struct Reader<'a> {
@@ -12,22 +12,24 @@ pub struct Reader<'a> {
     pub place: usize,
 }
 
-pub fn open<'a>(text: &'a [u8], place: usize) -> Reader<'a>
-    ensures { (result.text ≡ text.entry) × (result.place ≡ place) }
-{
-    Reader { text, place }
-}
+impl<'a> Reader<'a> {
+    pub fn open(text: &'a [u8], place: usize) -> Reader<'a>
+        ensures { (result.text ≡ text.entry) × (result.place ≡ place) }
+    {
+        Reader { text, place }
+    }
 
-// The event at the reader's place, with the next place.
-pub fn next_event<'a>(r: Reader<'a>) -> EventRead
-    ensures { event_answer result ≡ event_reading r.entry.text.now r.entry.place }
-{
-    text::read_event(r.text, r.place)
+    // The event at the reader's place, with the next place.
+    pub fn next_event(self) -> Result<(Event, usize), BadLine>
+        ensures { line_answer result ≡ event_reading self.entry.text.now self.entry.place }
+    {
+        text::read_event(self.text, self.place)
+    }
 }
 
 // The same of a text and a place: whoever calls this needs no reader.
-pub fn event_at(text: &[u8], place: usize) -> EventRead
-    ensures { event_answer result ≡ event_reading text.now place }
+pub fn event_at(text: &[u8], place: usize) -> Result<(Event, usize), BadLine>
+    ensures { line_answer result ≡ event_reading text.now place }
 {
-    next_event(open(text, place))
+    Reader::open(text, place).next_event()
 }

@@ -1,11 +1,10 @@
 -- From a reading to the bytes that were read.
-use Rattle.std.specs.Prelude.{ℕ, zero, suc, ◌+◌, ◌≤◌, ◌≡◌, refl, List, [], ◌∷◌, ◌++◌, Bool, true, false, cond, ◌&&◌, length, drop, leb, eqb}
+use Rattle.std.specs.Prelude.{ℕ, zero, suc, ◌+◌, ◌≤◌, ◌≡◌, refl, List, [], ◌∷◌, ◌++◌, Bool, true, false, cond, ◌&&◌, length, drop, leb, eqb, Option, Some, None}
 use Rattle.std.proofs.Common.{ap, ◌∙◌, append_assoc, append-nil, arith, leb-true, eqb-true}
 use Rattle.std.proofs.Math.Bool.{and-eq-true_iff}
+use Rattle.std.proofs.lemmas.Option.{none-some, some_pair_parts}
 use Rattle.std.proofs.Math.Seq.{drop-length}
 use Rattle.words.specs.Layout.{level, queue, node}
-use Rattle.decimals.specs.declared.FieldRead.{FieldRead}
-use Rattle.decimals.specs.declared.FieldRead.TheVariants.{Number, Wrong}
 use Rattle.decimals.specs.Decimals.{field_at, field_of}
 use Rattle.decimals.proofs.ReadBack.{field_reads}
 use Rattle.heads.specs.Heads.{stands_at}
@@ -13,79 +12,71 @@ use Rattle.heads.specs.Laws.{stands_is}
 use Rattle.text.specs.declared.Opening.{Opening}
 use Rattle.text.specs.declared.Event.{Event}
 use Rattle.text.specs.declared.Event.TheVariants.{Enqueue, Dequeue, Steps}
-use Rattle.text.specs.declared.EventFound.{EventFound}
-use Rattle.text.specs.declared.EventFound.TheVariants.{Found, Nothing}
 use Rattle.text.specs.Text.{lf, space, head_sizes, head_e, head_d, head_s, longest, opening_text, event_text, events_text, text_of}
 use Rattle.text.specs.Answer.{Answer, gives}
 use Rattle.text.specs.Reading.{with, enqueue_in, dequeue_in, steps_in, event_in, found, line_starts, wrong_at, number_line, sizes_reading, event_reading, end_reading}
 use Rattle.text.specs.Laws.{onto_is, given_is}
 use Rattle.schedule.specs.Meaning.{small, sound, all_sound, Writable}
-use Rattle.schedule.specs.Whole.{events_reading, schedule_reading}
+use Rattle.schedule.specs.Whole.{events_by, events_reading, schedule_reading}
 
 -- a field was read, where what came of it is not what stands in for it
-with_is : {A : Type 0} (other x : A) (r : FieldRead) (f : ℕ → ℕ → A) → (other ≡ x → ⊥) → with other r f ≡ x
-    → (n : ℕ) × (p : ℕ) × (r ≡ Number n p) × (f n p ≡ x)
-with_is other x (Number n p) f d e = (n, p, refl, e)
-with_is other x Wrong f d e = absurd (d e)
+with_is : {A : Type 0} (other x : A) (r : Option (ℕ × ℕ)) (f : ℕ → ℕ → A) → (other ≡ x → ⊥) → with other r f ≡ x
+    → (n : ℕ) × (p : ℕ) × (r ≡ Some (n, p)) × (f n p ≡ x)
+with_is other x (Some (n, p)) f d e = (n, p, refl, e)
+with_is other x None f d e = absurd (d e)
 
 -- an event was found: its line stands at the place, up to the next place
 record Line (e : Event) (s t : List ℕ) : Type 0 where
   is : s ≡ event_text e ++ t
   good : sound e
 
-not_found : (e : Event) (next : ℕ) → Nothing ≡ Found e next → ⊥
-not_found e next h = let z : ◌≡◌ {A = ℕ} 0 1 = cc in omega arith
-
-enqueue_reads : (text s : List ℕ) (at next : ℕ) (e : Event) → s ≡ head_e ++ drop at text → enqueue_in text at ≡ Found e next
+enqueue_reads : (text s : List ℕ) (at next : ℕ) (e : Event) → s ≡ head_e ++ drop at text → enqueue_in text at ≡ Some (e, next)
     → Line e s (drop next text)
 unfolding enqueue_in event_text sound
 enqueue_reads text s at next e h k =
-    let a = with_is Nothing (Found e next) (field_at space text at) _ (not_found e next) k in
-    let b = with_is Nothing (Found e next) (field_at space text a.1) _ (not_found e next) a.3 in
-    let c = with_is Nothing (Found e next) (field_at lf text b.1) _ (not_found e next) b.3 in
+    let a = with_is None (Some (e, next)) (field_at space text at) _ (none-some (e, next)) k in
+    let b = with_is None (Some (e, next)) (field_at space text a.1) _ (none-some (e, next)) a.3 in
+    let c = with_is None (Some (e, next)) (field_at lf text b.1) _ (none-some (e, next)) b.3 in
     let l = field_reads space text at a.0 a.1 a.2 in
     let q = field_reads space text a.1 b.0 b.1 b.2 in
     let n = field_reads lf text b.1 c.0 c.1 c.2 in
-    let to : c.1 ≡ next = cc in
-    let is : Enqueue (level a.0) (queue b.0) (node c.0) ≡ e = cc in
+    let (is, to) = some_pair_parts (Enqueue (level a.0) (queue b.0) (node c.0)) e c.1 next c.3 in
     let r : Line (Enqueue (level a.0) (queue b.0) (node c.0)) s (drop next text) =
     record { is = h ∙ simp (l.is, q.is, n.is, append_assoc, to); good = (l.small, q.small, n.small) }
     in
     rw is at r
 
-dequeue_reads : (text s : List ℕ) (at next : ℕ) (e : Event) → s ≡ head_d ++ drop at text → dequeue_in text at ≡ Found e next
+dequeue_reads : (text s : List ℕ) (at next : ℕ) (e : Event) → s ≡ head_d ++ drop at text → dequeue_in text at ≡ Some (e, next)
     → Line e s (drop next text)
 unfolding dequeue_in event_text sound
 dequeue_reads text s at next e h k =
-    let a = with_is Nothing (Found e next) (field_at space text at) _ (not_found e next) k in
-    let b = with_is Nothing (Found e next) (field_at lf text a.1) _ (not_found e next) a.3 in
+    let a = with_is None (Some (e, next)) (field_at space text at) _ (none-some (e, next)) k in
+    let b = with_is None (Some (e, next)) (field_at lf text a.1) _ (none-some (e, next)) a.3 in
     let l = field_reads space text at a.0 a.1 a.2 in
     let q = field_reads lf text a.1 b.0 b.1 b.2 in
-    let to : b.1 ≡ next = cc in
-    let is : Dequeue (level a.0) (queue b.0) ≡ e = cc in
+    let (is, to) = some_pair_parts (Dequeue (level a.0) (queue b.0)) e b.1 next b.3 in
     let r : Line (Dequeue (level a.0) (queue b.0)) s (drop next text) =
     record { is = h ∙ simp (l.is, q.is, append_assoc, to); good = (l.small, q.small) }
     in
     rw is at r
 
-steps_reads : (text s : List ℕ) (at next : ℕ) (e : Event) → s ≡ head_s ++ drop at text → steps_in text at ≡ Found e next
+steps_reads : (text s : List ℕ) (at next : ℕ) (e : Event) → s ≡ head_s ++ drop at text → steps_in text at ≡ Some (e, next)
     → Line e s (drop next text)
 unfolding steps_in event_text sound
 steps_reads text s at next e h k =
-    let a = with_is Nothing (Found e next) (field_at lf text at) _ (not_found e next) k in
+    let a = with_is None (Some (e, next)) (field_at lf text at) _ (none-some (e, next)) k in
     let n = field_reads lf text at a.0 a.1 a.2 in
     by (leb 1 a.0) a.0 a.1 refl n.small n.is a.3
   where
     by : (t : Bool) (count p : ℕ) → leb 1 count ≡ t → count ≤ 65535 → drop at text ≡ field_of count lf ++ drop p text
-        → cond t (Found (Steps count) p) Nothing ≡ Found e next → Line e s (drop next text)
+        → cond {A = Option (Event × ℕ)} t (Some (Steps count, p)) None ≡ Some (e, next) → Line e s (drop next text)
     by true count p f c is g =
-        let to : p ≡ next = cc in
-        let same : Steps count ≡ e = cc in
+        let (same, to) = some_pair_parts (Steps count) e p next g in
         let r : Line (Steps count) s (drop next text) = record { is = h ∙ simp (is, to); good = (c, leb-true 1 count f) } in
         rw same at r
-    by false count p f c is g = absurd (not_found e next g)
+    by false count p f c is g = absurd (none-some (e, next) g)
 
-event_reads : (text : List ℕ) (place next : ℕ) (e : Event) → event_in text place ≡ Found e next → Line e (drop place text) (drop next text)
+event_reads : (text : List ℕ) (place next : ℕ) (e : Event) → event_in text place ≡ Some (e, next) → Line e (drop place text) (drop next text)
 unfolding event_in
 event_reads text place next e k =
     by (stands_at head_e text place) (stands_at head_d text place) (stands_at head_s text place)
@@ -93,26 +84,24 @@ event_reads text place next e k =
   where
     by : (x y z : Bool) → (x ≡ true → drop place text ≡ head_e ++ drop (place + 2) text)
         → (y ≡ true → drop place text ≡ head_d ++ drop (place + 2) text) → (z ≡ true → drop place text ≡ head_s ++ drop (place + 2) text)
-        → cond x (enqueue_in text (place + 2)) (cond y (dequeue_in text (place + 2)) (cond z (steps_in text (place + 2)) Nothing)) ≡ Found e next
+        → cond x (enqueue_in text (place + 2)) (cond y (dequeue_in text (place + 2)) (cond z (steps_in text (place + 2)) None)) ≡ Some (e, next)
         → Line e (drop place text) (drop next text)
     by true y z f g h k = enqueue_reads text (drop place text) (place + 2) next e (f refl) k
     by false true z f g h k = dequeue_reads text (drop place text) (place + 2) next e (g refl) k
     by false false true f g h k = steps_reads text (drop place text) (place + 2) next e (h refl) k
-    by false false false f g h k = absurd (not_found e next k)
+    by false false false f g h k = absurd (none-some (e, next) k)
 
 not_wrong : {A : Type 0} (text : List ℕ) (place : ℕ) (x : A) → wrong_at text place ≡ gives x → ⊥
-unfolding wrong_at
-not_wrong text place x e = let z : ◌≡◌ {A = ℕ} 0 1 = cc in omega arith
+not_wrong text place x e = cc
 
 cond_is : {A : Type 0} (t : Bool) (a : Answer A) (text : List ℕ) (place : ℕ) (x : A) → cond t a (wrong_at text place) ≡ gives x
     → (t ≡ true) × (a ≡ gives x)
 cond_is true a text place x e = (refl, e)
 cond_is false a text place x e = absurd (not_wrong text place x e)
 
-found_is : (text : List ℕ) (place next : ℕ) (e : Event) (r : EventFound) → found text place r ≡ gives (e, next) → r ≡ Found e next
-unfolding found
-found_is text place next e (Found d p) h = let x = given_is d e p next h in rw (x.0, x.1)
-found_is text place next e Nothing h = absurd (not_wrong text place (e, next) h)
+found_is : (text : List ℕ) (place next : ℕ) (e : Event) (r : Option (Event × ℕ)) → found text place r ≡ gives (e, next) → r ≡ Some (e, next)
+found_is text place next e (Some (d, p)) h = let x = given_is d e p next h in rw (x.0, x.1)
+found_is text place next e None h = absurd (not_wrong text place (e, next) h)
 
 event_answers : (text : List ℕ) (place next : ℕ) (e : Event) → event_reading text place ≡ gives (e, next)
     → Line e (drop place text) (drop next text)
@@ -128,7 +117,7 @@ pub record Lines (es : List Event) (k : ℕ) (s t : List ℕ) : Type 0 where
 
 events_answer : (k : ℕ) (text : List ℕ) (place next : ℕ) (es : List Event) → events_reading k text place ≡ gives (es, next)
     → Lines es k (drop place text) (drop next text)
-unfolding events_reading events_text all_sound
+unfolding events_by events_text all_sound
 events_answer zero text place next es h =
     let x = given_is [] es place next h in
     let r : Lines [] 0 (drop place text) (drop next text) = record { is = rw x.1 refl; each = tt; counted = refl } in
@@ -145,8 +134,7 @@ events_answer (suc k) text place next es h =
     rw (x.0, x.1) at r
 
 number_is : {A : Type 0} (text : List ℕ) (place : ℕ) (x : A) (f : ℕ → ℕ → Answer A) → number_line text place f ≡ gives x
-    → (n : ℕ) × (p : ℕ) × (field_at lf text place ≡ Number n p) × (f n p ≡ gives x)
-unfolding number_line
+    → (n : ℕ) × (p : ℕ) × (field_at lf text place ≡ Some (n, p)) × (f n p ≡ gives x)
 number_is text place x f h = with_is (wrong_at text place) (gives x) (field_at lf text place) f (not_wrong text place x) h
 
 pub record Opens (o : Opening) (s t : List ℕ) : Type 0 where

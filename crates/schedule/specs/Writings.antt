@@ -1,9 +1,8 @@
 -- From the text of a schedule to what is read there.
-use Rattle.std.specs.Prelude.{ℕ, ◌+◌, ◌-◌, ◌≤◌, ◌≡◌, refl, List, [], ◌∷◌, ◌++◌, Bool, true, false, ◌||◌, length, drop, get_or}
+use Rattle.std.specs.Prelude.{ℕ, ◌+◌, ◌-◌, ◌≤◌, ◌≡◌, refl, List, [], ◌∷◌, ◌++◌, Bool, true, false, ◌||◌, length, drop, get_or, Some}
 use Rattle.std.proofs.Common.{sym, ap, ◌∙◌, append_assoc, append-nil, arith, length-drop, drop-drop, get_or-drop, le-leb, eq-eqb}
 use Rattle.std.proofs.Math.Seq.{drop-append_seam}
 use Rattle.std.proofs.lemmas.List.{get_or_at}
-use Rattle.decimals.specs.declared.FieldRead.TheVariants.{Number}
 use Rattle.decimals.specs.Decimals.{field_at, field_of, digits_of, width_of, is_digit}
 use Rattle.decimals.specs.Laws.{length_field, length_digits}
 use Rattle.decimals.specs.Inverse.{field_written}
@@ -12,13 +11,12 @@ use Rattle.heads.specs.Laws.{stands_own}
 use Rattle.text.specs.declared.Opening.{Opening}
 use Rattle.text.specs.declared.Event.{Event}
 use Rattle.text.specs.declared.Event.TheVariants.{Enqueue, Dequeue, Steps}
-use Rattle.text.specs.declared.EventFound.TheVariants.{Found}
 use Rattle.text.specs.Text.{lf, space, head_sizes, head_e, head_d, head_s, longest, opening_text, event_text, events_text, text_of}
 use Rattle.text.specs.Answer.{gives}
-use Rattle.text.specs.Reading.{enqueue_in, dequeue_in, steps_in, event_in, found, line_starts, number_line, sizes_reading, event_reading, end_reading}
+use Rattle.text.specs.Reading.{enqueue_in, dequeue_in, steps_in, event_in, line_starts, sizes_reading, event_reading, end_reading}
 use Rattle.text.specs.Laws.{starts_in}
 use Rattle.schedule.specs.Meaning.{small, sound, all_sound, Writable}
-use Rattle.schedule.specs.Whole.{events_reading, schedule_reading}
+use Rattle.schedule.specs.Whole.{events_by, events_reading, schedule_reading}
 
 -- what follows a part that stands at a place
 pub after : (text xs rest : List ℕ) (at : ℕ) → drop at text ≡ xs ++ rest → drop (at + length xs) text ≡ rest
@@ -27,7 +25,7 @@ after text xs rest at e = sym (drop-drop (length xs) at text) ∙ ap (drop (leng
 -- a field is read, with the next place, the bytes there, and the byte before it
 record FieldNext (end n : ℕ) (text : List ℕ) (at : ℕ) (rest : List ℕ) : Type 0 where
   next : ℕ
-  is : field_at end text at ≡ Number n next
+  is : field_at end text at ≡ Some (n, next)
   then : drop next text ≡ rest
   ends : get_or text (next - 1) 0 ≡ end
 
@@ -45,7 +43,7 @@ field_next end n text rest at d s e =
 
 record EventNext (e : Event) (text : List ℕ) (place : ℕ) (rest : List ℕ) : Type 0 where
   next : ℕ
-  is : event_in text place ≡ Found e next
+  is : event_in text place ≡ Some (e, next)
   then : drop next text ≡ rest
   ends : get_or text (next - 1) 0 ≡ lf
 
@@ -87,7 +85,7 @@ record EventsNext (es : List Event) (text : List ℕ) (place : ℕ) (rest : List
 
 events_next : (es : List Event) (text rest : List ℕ) (place : ℕ) → length text ≤ longest → all_sound es → line_starts text place ≡ true
     → drop place text ≡ events_text es ++ rest → EventsNext es text place rest
-unfolding events_text all_sound events_reading event_reading found
+unfolding events_text all_sound events_by event_reading
 events_next [] text rest place short s l e = record { next = place; is = refl; then = e; starts = l }
 events_next (e ∷ es) text rest place short s l h =
     let a = event_next e text (events_text es ++ rest) place s.0 (h ∙ simp append_assoc) in
@@ -102,7 +100,7 @@ record SizesNext (o : Opening) (text rest : List ℕ) : Type 0 where
 
 sizes_next : (o : Opening) (text rest : List ℕ) → length text ≤ longest
     → small o.levels → small o.queues → small o.nodes → small o.events → text ≡ opening_text o ++ rest → SizesNext o text rest
-unfolding opening_text sizes_reading number_line line_starts stands_at begins is_digit
+unfolding opening_text sizes_reading line_starts stands_at begins is_digit
 sizes_next o text rest short l q n k e =
     let h : drop 2 text ≡ field_of o.levels lf ++ (field_of o.queues lf ++ (field_of o.nodes lf ++ (field_of o.events lf ++ rest))) =
     after text head_sizes _ 0 (e ∙ simp append_assoc)

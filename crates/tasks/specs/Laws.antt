@@ -1,5 +1,5 @@
 -- What the proofs of reading a task cite, and that a task's text is a schedule's.
-use Rattle.std.specs.Prelude.{ℕ, zero, suc, ◌+◌, ◌-◌, ◌*◌, ◌≤◌, ◌<◌, ◌≡◌, refl, Bool, true, false, cond, List, [], ◌∷◌, ◌++◌, length, set, take, leb}
+use Rattle.std.specs.Prelude.{ℕ, zero, suc, ◌+◌, ◌-◌, ◌*◌, ◌≤◌, ◌<◌, ◌≡◌, refl, Bool, true, false, cond, List, [], ◌∷◌, ◌++◌, length, set, take, leb, Result, Ok, Err}
 use Rattle.std.proofs.Common.{sym, ap, ◌∙◌, arith, sub-one, length-append, le-leb, leb-true}
 use Rattle.std.proofs.lemmas.List.Edits.{sets, sets-eq}
 use Rattle.std.proofs.Math.Seq.{length-sets, take-append_seam}
@@ -9,11 +9,11 @@ use Rattle.heads.specs.Laws.{sets_append}
 use Rattle.text.specs.declared.Opening.{Opening}
 use Rattle.text.specs.declared.Event.{Event}
 use Rattle.text.specs.declared.Event.TheVariants.{Enqueue, Dequeue, Steps}
-use Rattle.text.specs.declared.EventRead.{EventRead}
+use Rattle.text.specs.declared.BadLine.{BadLine}
 use Rattle.text.specs.Answer.{Answer, gives, refuses, onto}
-use Rattle.text.specs.Reading.{wrong_at, sizes_reading, event_reading, end_reading, event_answer}
-use Rattle.text.specs.Laws.{onto_onto, onto_is, given_is}
-use Rattle.schedule.specs.Whole.{events_reading, schedule_reading}
+use Rattle.text.specs.Reading.{sizes_reading, event_reading, end_reading, line_answer}
+use Rattle.text.specs.Laws.{onto_is, given_is}
+use Rattle.schedule.specs.Whole.{events_by, rest_by, check_by, events_reading, schedule_reading}
 use Rattle.tasks.specs.Tasks.{
   operation_of,
   operation_reading,
@@ -28,42 +28,29 @@ use Rattle.tasks.specs.Parts.{rest_reading, check_reading, words_from}
 
 -- ---- one operation
 
-pub operation_is : (text : List ℕ) (place : ℕ) (r : EventRead) (e : Event) (next : ℕ) → event_answer r ≡ event_reading text place
-    → r ≡ EventRead.Read e next → operation_reading text place ≡ operation_of text place e next
-unfolding operation_reading event_answer
+pub operation_is : (text : List ℕ) (place : ℕ) (r : Result (Event × ℕ) BadLine) (e : Event) (next : ℕ) → line_answer r ≡ event_reading text place
+    → r ≡ Ok (e, next) → operation_reading text place ≡ operation_of text place e next
+unfolding operation_reading line_answer
 operation_is text place r e next p q = rw (← p, q)
 
-pub operation_wrong : (text : List ℕ) (place : ℕ) (r : EventRead) (line : ℕ) → event_answer r ≡ event_reading text place
-    → r ≡ EventRead.Refused line → operation_reading text place ≡ refuses 13 (line ∷ [])
-unfolding operation_reading event_answer
-operation_wrong text place r line p q = rw (← p, q)
+pub operation_wrong : (text : List ℕ) (place : ℕ) (r : Result (Event × ℕ) BadLine) (bad : BadLine) → line_answer r ≡ event_reading text place
+    → r ≡ Err bad → operation_reading text place ≡ refuses 13 (bad.0 ∷ [])
+unfolding operation_reading line_answer
+operation_wrong text place r bad p q = rw (← p, q)
 
 -- an operation is an event
 event_of : (text : List ℕ) (place : ℕ) (x : Event × ℕ) → operation_reading text place ≡ gives x → event_reading text place ≡ gives x
-unfolding operation_reading operation_of wrong_at
+unfolding operation_reading
 event_of text place x h = by (event_reading text place) h
   where
     of : (e : Event) (next : ℕ) → operation_of text place e next ≡ gives x → ◌≡◌ {A = Answer (Event × ℕ)} (gives (e, next)) (gives x)
     of (Enqueue l q n) next g = g
     of (Dequeue l q) next g = g
-    of (Steps count) next g = let z : ◌≡◌ {A = ℕ} 0 1 = cc in absurd (omega arith)
+    of (Steps count) next g = cc
 
     by : (a : Answer (Event × ℕ)) → onto a (λ e. operation_of text place e.0 e.1) ≡ gives x → a ≡ gives x
     by (gives y) g = of y.0 y.1 g
-    by (refuses n v) g = let z : ◌≡◌ {A = ℕ} 0 1 = cc in absurd (omega arith)
-
--- ---- the rest of a text
-
-pub rest_more : (k : ℕ) (text : List ℕ) (place : ℕ) → 0 < k
-    → rest_reading k text place ≡ onto (operation_reading text place) (λ e. rest_reading (k - 1) text e.1)
-unfolding rest_reading operations_reading
-rest_more zero text place h = absurd (omega arith)
-rest_more (suc k) text place h = simp (sub-one, onto_onto)
-
-pub rest_none : (k : ℕ) (text : List ℕ) (place : ℕ) → k ≤ 0 → rest_reading k text place ≡ end_reading text place
-unfolding rest_reading operations_reading
-rest_none zero text place h = refl
-rest_none (suc k) text place h = absurd (omega arith)
+    by (refuses n v) g = cc
 
 -- ---- the words
 
@@ -97,6 +84,8 @@ unfolding words_from
 words_none zero text place h = refl
 words_none (suc k) text place h = absurd (omega arith)
 
+pub ruleset words = (words_short, words_more, words_wrong, words_none)
+
 pub sets_after : {q p : ℕ} {t s : List ℕ} {xs : List ℕ} (ys : List ℕ) → Put q t s p xs → sets t q ys ≡ sets s p (xs ++ ys)
 sets_after {p} {s} {xs} ys a = rw (a.is, a.next) (sym (sets_append s p xs ys))
 
@@ -108,7 +97,7 @@ pub record Found (k : ℕ) (text : List ℕ) (place : ℕ) (es : List Event) (en
 
 found : (k : ℕ) (text : List ℕ) (place : ℕ) (es : List Event) (end : ℕ) → operations_reading k text place ≡ gives (es, end)
     → Found k text place es end
-unfolding operations_reading events_reading words_from all_words
+unfolding events_by words_from all_words
 found zero text place es end h =
     let x = given_is [] es place end h in record { events = h; words = rw (sym x.0) }
 found (suc k) text place es end h =
@@ -133,7 +122,7 @@ same_operations : (text : List ℕ) (o p : Opening) (i j : ℕ) (a : Answer (Lis
 same_operations text o p i j a d e h = rw (sym d, sym e) h
 
 checked : (text : List ℕ) (o : Opening) (place : ℕ) → check_reading text ≡ gives (o, place) → Checked text o place
-unfolding check_reading rest_reading
+unfolding check_by rest_by
 checked text o place h =
     let a = onto_is (sizes_reading text) _ (o, place) h in
     let b = onto_is (rest_reading a.0.0.events text a.0.1) _ (o, place) a.2 in
@@ -156,7 +145,7 @@ stops {A} {B} {C} {D} (gives x) f g k n v h = at_second (f x) h
   where
     at_third : (y : B) (c : Answer C) → onto c (λ _. gives x) ≡ refuses n v → onto c (λ _. k x y) ≡ refuses n v
     at_third y (refuses m w) i = let p : m ≡ n = cc in let q : w ≡ v = cc in rw (p, q)
-    at_third y (gives z) i = let p : ◌≡◌ {A = ℕ} 0 1 = cc in absurd (omega arith)
+    at_third y (gives z) i = cc
 
     at_second : (b : Answer B) → onto (onto b g) (λ _. gives x) ≡ refuses n v
         → onto b (λ y. onto (g y) (λ _. k x y)) ≡ refuses n v
@@ -164,7 +153,7 @@ stops {A} {B} {C} {D} (gives x) f g k n v h = at_second (f x) h
     at_second (gives y) i = at_third y (g y) i
 
 pub task_wrong : (text ops : List ℕ) (n : ℕ) (v : List ℕ) → check_reading text ≡ refuses n v → task_of text ops ≡ (refuses n v, ops)
-unfolding check_reading rest_reading task_reading task_of laid
+unfolding check_by rest_by task_reading task_of laid
 task_wrong text ops n v h =
     let s =
     stops {D = Opening × List Event} (sizes_reading text) (λ o. operations_reading o.0.events text o.1)
@@ -187,6 +176,8 @@ task_is text ops o place h m =
     let f = found o.events text place a.es a.end a.operations in
     rw (a.sizes, a.operations, a.ends, le-leb o.events 6 m, f.words)
 
+pub ruleset whole = (task_wrong, task_many, task_is)
+
 -- ---- what a task's text is
 
 sixth : {A : Type 0} (n : ℕ) (x y : A) → cond (leb n 6) (gives x) (refuses 14 []) ≡ gives y
@@ -195,7 +186,7 @@ sixth {A} n x y h = by (leb n 6) refl h
   where
     by : (t : Bool) → leb n 6 ≡ t → cond t (gives x) (refuses 14 []) ≡ gives y → (◌≡◌ {A = Answer A} (gives x) (gives y)) × (n ≤ 6)
     by true e g = (g, leb-true n 6 e)
-    by false e g = let z : ◌≡◌ {A = ℕ} 0 1 = cc in absurd (omega arith)
+    by false e g = cc
 
 same_events : (o p : Opening) → o ≡ p → o.events ≤ 6 → p.events ≤ 6
 same_events o p e h = rw (sym e) h
@@ -224,21 +215,21 @@ task_six text o es h =
 -- ---- what follows a task that was read
 
 four_words : (text : List ℕ) (place : ℕ) (x : Event × ℕ) → operation_reading text place ≡ gives x → length (words_of x.0) ≡ 4
-unfolding operation_reading operation_of wrong_at words_of
+unfolding operation_reading words_of
 four_words text place x h = by (event_reading text place) h
   where
     of : (e : Event) (next : ℕ) → operation_of text place e next ≡ gives x → length (words_of x.0) ≡ 4
     of (Enqueue l q n) next g = let d = given_is (Enqueue l q n) x.0 next x.1 g in rw (sym d.0)
     of (Dequeue l q) next g = let d = given_is (Dequeue l q) x.0 next x.1 g in rw (sym d.0)
-    of (Steps count) next g = let z : ◌≡◌ {A = ℕ} 0 1 = cc in absurd (omega arith)
+    of (Steps count) next g = cc
 
     by : (a : Answer (Event × ℕ)) → onto a (λ e. operation_of text place e.0 e.1) ≡ gives x → length (words_of x.0) ≡ 4
     by (gives y) g = of y.0 y.1 g
-    by (refuses n v) g = let z : ◌≡◌ {A = ℕ} 0 1 = cc in absurd (omega arith)
+    by (refuses n v) g = cc
 
 four_each : (k : ℕ) (text : List ℕ) (place : ℕ) (es : List Event) (end : ℕ) → operations_reading k text place ≡ gives (es, end)
     → length (all_words es) ≡ 4 * k
-unfolding operations_reading all_words
+unfolding events_by all_words
 four_each zero text place es end h = let x = given_is [] es place end h in rw (sym x.0)
 four_each (suc k) text place es end h =
     let a = onto_is (operation_reading text place) _ (es, end) h in
@@ -296,4 +287,4 @@ task_read text ops after o h e = by (task_reading text) refl e
         of x.0 x.1 f (given_opening x.0 o said) words
     by (refuses n v) f g =
         let i : ◌≡◌ {A = Answer Opening} (refuses n v) (gives o) = ap (λ (u : Answer Opening × List ℕ). u.0) g in
-        let z : ◌≡◌ {A = ℕ} 0 1 = cc in absurd (omega arith)
+        cc

@@ -2,17 +2,18 @@
 use Rattle.std.specs.Prelude.{ℕ, zero, suc, List, [], ◌++◌}
 use Rattle.text.specs.declared.Opening.{Opening}
 use Rattle.text.specs.declared.Event.{Event}
-use Rattle.text.specs.Answer.{Answer, gives, refuses, onto}
-use Rattle.text.specs.Reading.{sizes_reading, event_reading, end_reading}
-use Rattle.tasks.specs.Tasks.{operations_reading, words_of}
+use Rattle.text.specs.Answer.{Answer, gives, refuses}
+use Rattle.text.specs.Reading.{event_reading}
+use Rattle.schedule.specs.Whole.{rest_by, check_by}
+use Rattle.tasks.specs.Tasks.{operation_reading, words_of}
 
 -- so many operations, and then the end
-unfoldable pub rest_reading : ℕ → List ℕ → ℕ → Answer (Unit {0})
-rest_reading count text place = onto (operations_reading count text place) λ es. end_reading text es.1
+abbrev pub rest_reading : ℕ → List ℕ → ℕ → Answer (Unit {0})
+rest_reading = rest_by operation_reading
 
 -- the sizes, where the whole text is right
-unfoldable pub check_reading : List ℕ → Answer (Opening × ℕ)
-check_reading text = onto (sizes_reading text) λ o. onto (rest_reading o.0.events text o.1) λ _. gives o
+abbrev pub check_reading : List ℕ → Answer (Opening × ℕ)
+check_reading = check_by operation_reading
 
 -- the words of an event that was read, and those that follow
 abbrev pub words_then : Answer (Event × ℕ) → (ℕ → List ℕ) → List ℕ

@@ -1,18 +1,19 @@
 -- What a task's text says: sizes and at most six operations. It is a schedule's text, in which a line of steps is as wrong as one that
 -- begins with no letter of an event.
-use Rattle.std.specs.Prelude.{ℕ, zero, suc, cond, List, [], ◌∷◌, ◌++◌, leb}
+use Rattle.std.specs.Prelude.{ℕ, cond, List, [], ◌∷◌, ◌++◌, leb, Result, Ok, Err}
 use Rattle.std.proofs.lemmas.List.Edits.{sets}
 use Rattle.text.specs.declared.Opening.{Opening}
 use Rattle.text.specs.declared.Event.{Event}
 use Rattle.text.specs.declared.Event.TheVariants.{Enqueue, Dequeue, Steps}
 use Rattle.text.specs.Answer.{Answer, gives, refuses, onto}
 use Rattle.text.specs.Reading.{wrong_at, sizes_reading, event_reading, end_reading}
-use Rattle.tasks.specs.declared.Task.{Task}
-use Rattle.tasks.specs.declared.Task.TheVariants.{Is, Wrong, Refused}
+use Rattle.schedule.specs.Whole.{events_by}
+use Rattle.tasks.specs.declared.TaskError.{TaskError}
+use Rattle.tasks.specs.declared.TaskError.TheVariants.{Line, TooMany}
 
 -- ---- the reading, from the top
 
-unfoldable pub operation_of : List ℕ → ℕ → Event → ℕ → Answer (Event × ℕ)
+abbrev pub operation_of : List ℕ → ℕ → Event → ℕ → Answer (Event × ℕ)
 operation_of text place (Enqueue l q n) next = gives (Enqueue l q n, next)
 operation_of text place (Dequeue l q) next = gives (Dequeue l q, next)
 operation_of text place (Steps count) next = wrong_at text place
@@ -22,12 +23,8 @@ unfoldable pub operation_reading : List ℕ → ℕ → Answer (Event × ℕ)
 operation_reading text place = onto (event_reading text place) λ e. operation_of text place e.0 e.1
 
 -- so many operations, with the place after them
-unfoldable pub operations_reading : ℕ → List ℕ → ℕ → Answer (List Event × ℕ)
-operations_reading zero text place = gives ([], place)
-operations_reading (suc k) text place =
-    onto (operation_reading text place) λ e.
-    onto (operations_reading k text e.1) λ es.
-    gives (e.0 ∷ es.0, es.1)
+abbrev pub operations_reading : ℕ → List ℕ → ℕ → Answer (List Event × ℕ)
+operations_reading = events_by operation_reading
 
 -- a text that is wrong is refused with 13 and the first wrong line; then more than six operations with 14
 unfoldable pub task_reading : List ℕ → Answer (Opening × List Event)
@@ -50,10 +47,10 @@ all_words (e ∷ es) = words_of e ++ all_words es
 
 -- ---- the call
 
-unfoldable pub task_says : Task → Answer Opening
-task_says (Is o) = gives o
-task_says (Wrong line) = refuses 13 (line ∷ [])
-task_says (Refused number) = refuses number []
+unfoldable pub task_says : Result Opening TaskError → Answer Opening
+task_says (Ok o) = gives o
+task_says (Err (Line bad)) = refuses 13 (bad.0 ∷ [])
+task_says (Err TooMany) = refuses 14 []
 
 -- the words of the operations stand from the start on; where the task is refused, all stays
 unfoldable pub laid : List ℕ → Answer (Opening × List Event) → Answer Opening × List ℕ

@@ -4,132 +4,90 @@
 ghost use Rattle.std.specs.Prelude.{◌≡◌, ◌+◌, ◌≤◌};
 ghost use Rattle.std.proofs.lemmas.List.Edits.{sets};
 ghost use Rattle.heads.specs.Put.{Put};
-ghost use Rattle.text.specs.Reading.{sizes_answer, event_answer, end_answer};
 ghost use Rattle.tasks.specs.Tasks.{operation_reading, words_of, task_says, task_of};
-ghost use Rattle.tasks.specs.Parts.{rest_reading, check_reading, words_from};
+ghost use Rattle.tasks.specs.Parts.{words_from};
+ghost use Rattle.tasks.specs.declared.TaskError.TheVariants.{Line};
 
-use text::{EndRead, Event, EventRead, Opening, SizesRead};
+use schedule::Events;
+use text::{BadLine, Event, Opening};
 
-#[derive(Clone, Copy)]
-pub enum Task {
-    // The sizes, and how many operations there are.
-    Is(Opening),
-    // The first line that is wrong.
-    Wrong(usize),
+// Why a text is no task.
+#[derive(Clone, Copy, PartialEq, Eq, Debug)]
+pub enum TaskError {
+    // 13: the first line that is wrong.
+    Line(BadLine),
     // 14: more than six operations.
-    Refused(u16),
+    TooMany,
+}
+
+impl From<BadLine> for TaskError {
+    ghost from_gives = { λ bad e. e ≡ Line bad };
+
+    fn from(bad: BadLine) -> TaskError {
+        TaskError::Line(bad)
+    }
 }
 
 // The words of six operations.
 pub const WORDS: usize = 24;
 
-// The event at a place, if it is an operation: steps are wrong in a task.
-fn operation_at(text: &[u8], place: usize) -> EventRead
-    ensures { event_answer result ≡ operation_reading text.now place }
-{
-    match reader::event_at(text, place) {
-        EventRead::Read(e, next) => match e {
-            Event::Enqueue(_, _, _) => EventRead::Read(e, next),
-            Event::Dequeue(_, _) => EventRead::Read(e, next),
-            Event::Steps(_) => EventRead::Refused(text::line_at(text, place)),
-        },
-        EventRead::Refused(line) => EventRead::Refused(line),
-    }
-}
+// What a task has: the operations, and no steps.
+struct Operations;
 
-// So many operations from place on, and then the end.
-fn read_rest(text: &[u8], place: usize, count: u16) -> EndRead
-    ensures { end_answer result ≡ rest_reading count text.now place }
-{
-    let mut at = place;
-    let mut left = count;
-    while 0 < left {
-        match operation_at(text, at) {
-            EventRead::Read(_, next) => {
-                at = next;
-                left -= 1;
-            }
-            EventRead::Refused(line) => {
-                return EndRead::Refused(line);
-            }
+impl Events for Operations {
+    ghost reading = { operation_reading };
+
+    #[tactic(auto, unfolding(crate::specs::Tasks::operation_reading, text::specs::Reading::line_answer))]
+    fn event_at(text: &[u8], place: usize) -> Result<(Event, usize), BadLine> {
+        match reader::event_at(text, place)? {
+            (Event::Steps(_), _) => Err(BadLine(text::line_at(text, place))),
+            operation => Ok(operation),
         }
-    }
-    text::read_end(text, at)
-}
-
-// The sizes of a text that is right to its end, with the place of its first operation; or the first line that is wrong.
-fn check_task(text: &[u8]) -> SizesRead
-    ensures { sizes_answer result ≡ check_reading text.now }
-{
-    match text::read_sizes(text) {
-        SizesRead::Read(o, next) => match read_rest(text, next, o.events) {
-            EndRead::Ends => SizesRead::Read(o, next),
-            EndRead::Refused(line) => SizesRead::Refused(line),
-        },
-        SizesRead::Refused(line) => SizesRead::Refused(line),
     }
 }
 
 // Writes the words of an operation at a place, and answers the place after them.
-fn put_operation(ops: &mut [u16; 24], at: usize, e: Event) -> usize
+#[tactic(auto, using(crate::specs::Laws::put_four), unfolding(crate::specs::Tasks::words_of))]
+fn put_operation(ops: &mut [u16; WORDS], at: usize, e: Event) -> usize
     requires { at + 4 ≤ 24 }
     ensures { Put result ops.new ops.old at (words_of e) }
 {
-    match e {
-        Event::Enqueue(l, q, n) => {
-            ops[at] = 1;
-            ops[at + 1] = l.0;
-            ops[at + 2] = q.0;
-            ops[at + 3] = n.0;
-            at + 4
-        }
-        Event::Dequeue(l, q) => {
-            ops[at] = 2;
-            ops[at + 1] = l.0;
-            ops[at + 2] = q.0;
-            ops[at + 3] = 0;
-            at + 4
-        }
-        Event::Steps(_) => at,
-    }
+    let words = match e {
+        Event::Enqueue(l, q, n) => [1, l.0, q.0, n.0],
+        Event::Dequeue(l, q) => [2, l.0, q.0, 0],
+        Event::Steps(_) => return at,
+    };
+    ops[at..at + 4].copy_from_slice(&words);
+    at + 4
 }
 
 // Writes the words of so many operations from place on.
-fn put_operations(text: &[u8], place: usize, count: u16, ops: &mut [u16; 24])
+#[tactic(auto, using(crate::specs::Laws::words), unfolding(text::specs::Reading::line_answer))]
+fn put_operations(text: &[u8], place: usize, count: u16, ops: &mut [u16; WORDS])
     requires { count ≤ 6 }
     ensures { ops.new ≡ sets ops.old 0 (words_from count text.now place) }
 {
     let mut at = place;
-    let mut left = count;
     let mut n = 0;
-    while 0 < left {
-        match reader::event_at(text, at) {
-            EventRead::Read(e, next) => {
-                n = put_operation(ops, n, e);
-                at = next;
-                left -= 1;
-            }
-            // never: the text is right
-            EventRead::Refused(_) => {
-                return;
-            }
-        }
+    for _ in 0..count {
+        // it can be read: the text is right
+        let Ok((e, next)) = reader::event_at(text, at) else {
+            return;
+        };
+        n = put_operation(ops, n, e);
+        at = next;
     }
 }
 
 // Reads a task's text: its operations stand at the start of the words, four each; nothing is written where it is refused.
-#[tactic(auto, using(crate::specs::Laws::task_many, crate::specs::Laws::task_is), unfolding(text::specs::Reading::sizes_answer, crate::specs::Tasks::task_says))]
-pub fn read_task(text: &[u8], ops: &mut [u16; 24]) -> Task
+#[tactic(auto, using(crate::specs::Laws::whole), unfolding(text::specs::Reading::line_answer, crate::specs::Tasks::task_says))]
+pub fn read_task(text: &[u8], ops: &mut [u16; WORDS]) -> Result<Opening, TaskError>
     ensures { task_of text.now ops.old ≡ (task_says result, ops.new) }
 {
-    match check_task(text) {
-        SizesRead::Read(o, place) => {
-            if 6 < o.events {
-                return Task::Refused(14);
-            }
-            put_operations(text, place, o.events, ops);
-            Task::Is(o)
-        }
-        SizesRead::Refused(line) => Task::Wrong(line),
+    let (opening, place) = schedule::check::<Operations>(text)?;
+    if 6 < opening.events {
+        return Err(TaskError::TooMany);
     }
+    put_operations(text, place, opening.events, ops);
+    Ok(opening)
 }

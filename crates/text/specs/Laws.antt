@@ -1,7 +1,9 @@
 -- What the proofs of reading cite.
-use Rattle.std.specs.Prelude.{ℕ, ◌+◌, ◌-◌, ◌≤◌, ◌<◌, ◌≡◌, refl, List, [], ◌∷◌, ◌++◌, Bool, true, false, ◌&&◌, ◌||◌, length, get_or, take, eqb, leb, ltb}
-use Rattle.std.proofs.Common.{ap, arith, add-one, take-suc, take_all, ltb-true, ltb-false, ne_eqb}
+use Rattle.std.specs.Prelude.{ℕ, ◌+◌, ◌-◌, ◌≤◌, ◌<◌, ◌≡◌, refl, List, [], ◌∷◌, ◌++◌, Bool, true, false, ◌&&◌, ◌||◌, length, get_or, take, eqb, leb, ltb, count_by, ◌==◌, cond}
+use Rattle.std.proofs.Common.{ap, arith, add-one, take-suc, take_all, ltb-true, ltb-false, ne_eqb, zero-add}
 use Rattle.std.proofs.lemmas.Bool.{false≢true}
+use Rattle.std.proofs.lemmas.Bool.Decides.{nat_tests}
+use Rattle.std.proofs.lemmas.List.Recursion.{is_count_by}
 use Rattle.std.proofs.Math.ListN.{get_or-eq_default}
 use Rattle.text.specs.Answer.{Answer, gives, refuses, onto}
 use Rattle.text.specs.Text.{lf, longest}
@@ -14,6 +16,15 @@ lfs_append (b ∷ s) t = let ih = lfs_append s t in omega arith
 
 pub lfs_more : (text : List ℕ) (i : ℕ) → i < length text → lfs (take (i + 1) text) ≡ lfs (take i text) + lfs (get_or text i 0 ∷ [])
 lfs_more text i h = rw (add-one, take-suc text i 0) (lfs_append (take i text) (get_or text i 0 ∷ []))
+
+-- the same, counted
+pub lfs_count : (text : List ℕ) → lfs text ≡ count_by (λ b. b == lf) text
+unfolding lfs
+lfs_count = is_count_by lfs (λ b. b == lf) refl (λ b s. one (b == lf) (lfs s))
+  where
+    one : (t : Bool) (n : ℕ) → cond t 1 0 + n ≡ cond t (1 + n) n
+    one true n = refl
+    one false n = zero-add n
 
 pub lfs_past : (text : List ℕ) (i j : ℕ) → length text ≤ i → i ≤ j → lfs (take i text) ≡ lfs (take j text)
 lfs_past text i j h k = let p : length text ≤ j = omega arith in simp (take_all i text h, take_all j text p)
@@ -35,6 +46,8 @@ starts_in text place e = by (leb (length text) longest) (ltb (length text) place
         let z : ◌≡◌ {A = Bool} false true = (rw (n, past_end text place h) at g) in absurd (false≢true z)
     by false true f g = absurd (false≢true g)
 
+pub ruleset starts = (nat_tests, past_end, starts_in)
+
 -- answers, one after the other
 pub onto_onto : {A B C : Type 0} (a : Answer A) (f : A → Answer B) (g : B → Answer C) → onto (onto a f) g ≡ onto a (λ x. onto (f x) g)
 onto_onto (gives a) f g = refl
@@ -42,7 +55,7 @@ onto_onto (refuses n v) f g = refl
 
 pub onto_is : {A B : Type 0} (a : Answer A) (f : A → Answer B) (b : B) → onto a f ≡ gives b → (x : A) × (a ≡ gives x) × (f x ≡ gives b)
 onto_is (gives x) f b e = (x, refl, e)
-onto_is (refuses n v) f b e = let z : ◌≡◌ {A = ℕ} 0 1 = cc in absurd (omega arith)
+onto_is (refuses n v) f b e = cc
 
 pub given_is : {A B : Type 0} (a c : A) (b d : B) → ◌≡◌ {A = Answer (A × B)} (gives (a, b)) (gives (c, d)) → (a ≡ c) × (b ≡ d)
 given_is {A} {B} a c b d e =

@@ -1,9 +1,9 @@
 // Schedule text: the sizes, an event and the end, read at a place.
 #![tactic(auto)]
 
-ghost use Rattle.std.specs.Prelude.{◌≡◌, ◌&&◌, [], ◌∷◌, eqb, ◌+◌, ◌≤◌, length, take};
+ghost use Rattle.std.specs.Prelude.{◌≡◌, ◌==◌, ◌&&◌, eqb, ◌≤◌, count_by, length, take};
 ghost use Rattle.heads.specs.Heads.{stands_at};
-ghost use Rattle.text.specs.Text.{head_sizes};
+ghost use Rattle.text.specs.Text.{head_sizes, lf};
 ghost use Rattle.text.specs.Reading.{
   lfs,
   line_at,
@@ -12,15 +12,13 @@ ghost use Rattle.text.specs.Reading.{
   dequeue_in,
   steps_in,
   event_in,
+  number_at,
   sizes_reading,
   event_reading,
   end_reading,
-  sizes_answer,
-  event_answer,
-  end_answer,
+  line_answer,
 };
 
-use decimals::FieldRead;
 use words::{Level, Node, Queue};
 
 #[derive(Clone, Copy)]
@@ -31,7 +29,7 @@ pub enum Event {
 }
 
 // The sizes L, Q and N, and the count of events.
-#[derive(Clone, Copy)]
+#[derive(Clone, Copy, PartialEq, Eq, Debug)]
 pub struct Opening {
     pub levels: u16,
     pub queues: u16,
@@ -39,61 +37,30 @@ pub struct Opening {
     pub events: u16,
 }
 
-// What was read with the next place, or the line of refusal 13.
-#[derive(Clone, Copy)]
-pub enum SizesRead {
-    Read(Opening, usize),
-    Refused(usize),
-}
+// Refusal 13: the line that is wrong, the text's first line being line 1, or 0 where the text is too long.
+#[derive(Clone, Copy, PartialEq, Eq, Debug)]
+pub struct BadLine(pub usize);
 
-#[derive(Clone, Copy)]
-pub enum EventRead {
-    Read(Event, usize),
-    Refused(usize),
-}
+pub const SPACE: u8 = b' ';
 
-#[derive(Clone, Copy)]
-pub enum EndRead {
-    Ends,
-    Refused(usize),
-}
-
-// The event of a line that starts at a place, with the place after the line.
-#[derive(Clone, Copy)]
-pub enum EventFound {
-    Found(Event, usize),
-    Nothing,
-}
-
-pub const SPACE: u8 = 32;
-
-pub const LF: u8 = 10;
+pub const LF: u8 = b'\n';
 
 pub const LONGEST: usize = 65536;
 
-fn lf_in(b: u8) -> usize
-    ensures { (result ≡ lfs (b ∷ [])) × (result ≤ 1) }
+fn count_lfs(s: &[u8]) -> usize
+    ensures { result ≡ count_by (λ b. b == lf) s.now }
 {
-    if b == LF { 1 } else { 0 }
+    s.iter().filter(|b| **b == LF).count()
 }
 
 // How many lines end before place.
 fn lines_before(text: &[u8], place: usize) -> usize
     ensures { (result ≡ lfs (take place text.now)) × (result ≤ length text.now) }
 {
-    let mut n = 0;
-    let mut i = 0;
-    while i < place {
-        if i < text.len() {
-            n += lf_in(text[i]);
-            i += 1;
-        } else {
-            return n;
-        }
-    }
-    n
+    count_lfs(&text[..place.min(text.len())])
 }
 
+#[tactic(auto, using(std::proofs::lemmas::Bool::Decides::nat_tests), unfolding(crate::specs::Reading::line_at))]
 pub fn line_at(text: &[u8], place: usize) -> usize
     ensures { result ≡ line_at text.now place }
 {
@@ -104,66 +71,43 @@ pub fn line_at(text: &[u8], place: usize) -> usize
     }
 }
 
+#[tactic(auto, using(crate::specs::Laws::starts), unfolding(crate::specs::Reading::line_starts))]
 fn line_starts(text: &[u8], place: usize) -> bool
     ensures { result ≡ line_starts text.now place }
 {
-    if text.len() <= LONGEST {
-        if place == 0 {
-            true
-        } else {
-            if place <= text.len() {
-                text[place - 1] == LF
-            } else {
-                false
-            }
-        }
-    } else {
-        false
-    }
+    text.len() <= LONGEST && (place == 0 || place <= text.len() && text[place - 1] == LF)
 }
 
-fn enqueue_in(text: &[u8], at: usize) -> EventFound
+#[tactic(auto, unfolding(crate::specs::Reading::enqueue_in))]
+fn enqueue_in(text: &[u8], at: usize) -> Option<(Event, usize)>
     ensures { result ≡ enqueue_in text.now at }
 {
-    let FieldRead::Number(l, queue) = decimals::read_field(text, at, SPACE) else {
-        return EventFound::Nothing;
-    };
-    let FieldRead::Number(q, node) = decimals::read_field(text, queue, SPACE) else {
-        return EventFound::Nothing;
-    };
-    let FieldRead::Number(n, next) = decimals::read_field(text, node, LF) else {
-        return EventFound::Nothing;
-    };
-    EventFound::Found(Event::Enqueue(Level(l), Queue(q), Node(n)), next)
+    let (l, queue) = decimals::read_field(text, at, SPACE)?;
+    let (q, node) = decimals::read_field(text, queue, SPACE)?;
+    let (n, next) = decimals::read_field(text, node, LF)?;
+    Some((Event::Enqueue(Level(l), Queue(q), Node(n)), next))
 }
 
-fn dequeue_in(text: &[u8], at: usize) -> EventFound
+#[tactic(auto, unfolding(crate::specs::Reading::dequeue_in))]
+fn dequeue_in(text: &[u8], at: usize) -> Option<(Event, usize)>
     ensures { result ≡ dequeue_in text.now at }
 {
-    let FieldRead::Number(l, queue) = decimals::read_field(text, at, SPACE) else {
-        return EventFound::Nothing;
-    };
-    let FieldRead::Number(q, next) = decimals::read_field(text, queue, LF) else {
-        return EventFound::Nothing;
-    };
-    EventFound::Found(Event::Dequeue(Level(l), Queue(q)), next)
+    let (l, queue) = decimals::read_field(text, at, SPACE)?;
+    let (q, next) = decimals::read_field(text, queue, LF)?;
+    Some((Event::Dequeue(Level(l), Queue(q)), next))
 }
 
-#[tactic(auto, unfolding(crate::specs::Reading::steps_in))]
-fn steps_in(text: &[u8], at: usize) -> EventFound
+#[tactic(auto, using(std::proofs::lemmas::Bool::Decides::nat_tests), unfolding(crate::specs::Reading::steps_in))]
+fn steps_in(text: &[u8], at: usize) -> Option<(Event, usize)>
     ensures { result ≡ steps_in text.now at }
 {
-    let FieldRead::Number(count, next) = decimals::read_field(text, at, LF) else {
-        return EventFound::Nothing;
-    };
-    if 1 <= count {
-        EventFound::Found(Event::Steps(count), next)
-    } else {
-        EventFound::Nothing
-    }
+    let (count, next) = decimals::read_field(text, at, LF)?;
+    (1 <= count).then_some((Event::Steps(count), next))
 }
 
-fn event_in(text: &[u8], place: usize) -> EventFound
+// The event of a line that starts at a place, with the place after the line.
+#[tactic(auto, unfolding(crate::specs::Reading::event_in))]
+fn event_in(text: &[u8], place: usize) -> Option<(Event, usize)>
     requires { place ≤ length text.now }
     ensures { result ≡ event_in text.now place }
 {
@@ -174,80 +118,69 @@ fn event_in(text: &[u8], place: usize) -> EventFound
     } else if heads::stands_at(text, place, b"S ") {
         steps_in(text, place + 2)
     } else {
-        EventFound::Nothing
+        None
     }
 }
 
 fn opens(text: &[u8]) -> bool
     ensures { result ≡ (line_starts text.now 0 && stands_at head_sizes text.now 0) }
 {
-    if line_starts(text, 0) {
-        heads::stands_at(text, 0, b"3\n")
-    } else {
-        false
-    }
+    line_starts(text, 0) && heads::stands_at(text, 0, b"3\n")
 }
 
 fn ends_at(text: &[u8], place: usize) -> bool
     ensures { result ≡ (line_starts text.now place && eqb place (length text.now)) }
 {
-    if line_starts(text, place) {
-        place == text.len()
-    } else {
-        false
-    }
+    line_starts(text, place) && place == text.len()
 }
 
-// The first five lines: `3`, L, Q, N and the count of events.
-pub fn read_sizes(text: &[u8]) -> SizesRead
-    ensures { sizes_answer result ≡ sizes_reading text.now }
+// A number that fills the rest of its line, with the next place.
+#[tactic(auto, unfolding(crate::specs::Reading::number_at))]
+fn number_line(text: &[u8], place: usize) -> Result<(u16, usize), BadLine>
+    ensures { result ≡ number_at text.now place }
 {
-    if opens(text) {
-        let FieldRead::Number(levels, second) = decimals::read_field(text, 2, LF) else {
-            return SizesRead::Refused(line_at(text, 2));
-        };
-        let FieldRead::Number(queues, third) = decimals::read_field(text, second, LF) else {
-            return SizesRead::Refused(line_at(text, second));
-        };
-        let FieldRead::Number(nodes, fourth) = decimals::read_field(text, third, LF) else {
-            return SizesRead::Refused(line_at(text, third));
-        };
-        let FieldRead::Number(events, next) = decimals::read_field(text, fourth, LF) else {
-            return SizesRead::Refused(line_at(text, fourth));
-        };
-        SizesRead::Read(
-            Opening {
-                levels,
-                queues,
-                nodes,
-                events,
-            },
-            next,
-        )
-    } else {
-        SizesRead::Refused(line_at(text, 0))
-    }
+    decimals::read_field(text, place, LF).ok_or_else(|| BadLine(line_at(text, place)))
 }
 
-pub fn read_event(text: &[u8], place: usize) -> EventRead
-    ensures { event_answer result ≡ event_reading text.now place }
+// The first five lines: `3`, L, Q, N and the count of events; with the next place.
+#[tactic(auto, unfolding(crate::specs::Reading::sizes_reading, crate::specs::Reading::line_answer, crate::specs::Reading::number_at))]
+pub fn read_sizes(text: &[u8]) -> Result<(Opening, usize), BadLine>
+    ensures { line_answer result ≡ sizes_reading text.now }
 {
-    if line_starts(text, place) {
-        match event_in(text, place) {
-            EventFound::Found(e, next) => EventRead::Read(e, next),
-            EventFound::Nothing => EventRead::Refused(line_at(text, place)),
-        }
-    } else {
-        EventRead::Refused(line_at(text, place))
+    if !opens(text) {
+        return Err(BadLine(line_at(text, 0)));
     }
+    let (levels, second) = number_line(text, 2)?;
+    let (queues, third) = number_line(text, second)?;
+    let (nodes, fourth) = number_line(text, third)?;
+    let (events, next) = number_line(text, fourth)?;
+    let opening = Opening {
+        levels,
+        queues,
+        nodes,
+        events,
+    };
+    Ok((opening, next))
 }
 
-pub fn read_end(text: &[u8], place: usize) -> EndRead
-    ensures { end_answer result ≡ end_reading text.now place }
+// The event at a place, with the next place.
+#[tactic(auto, using(crate::specs::Laws::starts), unfolding(crate::specs::Reading::event_reading, crate::specs::Reading::line_answer))]
+pub fn read_event(text: &[u8], place: usize) -> Result<(Event, usize), BadLine>
+    ensures { line_answer result ≡ event_reading text.now place }
+{
+    if !line_starts(text, place) {
+        return Err(BadLine(line_at(text, place)));
+    }
+    event_in(text, place).ok_or_else(|| BadLine(line_at(text, place)))
+}
+
+#[tactic(auto, unfolding(crate::specs::Reading::end_reading, crate::specs::Reading::line_answer))]
+pub fn read_end(text: &[u8], place: usize) -> Result<(), BadLine>
+    ensures { line_answer result ≡ end_reading text.now place }
 {
     if ends_at(text, place) {
-        EndRead::Ends
+        Ok(())
     } else {
-        EndRead::Refused(line_at(text, place))
+        Err(BadLine(line_at(text, place)))
     }
 }

@@ -17,9 +17,8 @@ ghost use Rattle.trying.specs.Bounds.{digit_on, bound_in};
 use loglines::Pen;
 use outcomes::Written;
 use std::env::{Env, FillError};
-use tasks::Task;
+use tasks::TaskError;
 use text::Opening;
-use tries::{Number, Tried};
 
 // What is asked for: the schedules, so many at most; or the outcomes.
 #[derive(Clone, Copy, Debug, PartialEq, Eq)]
@@ -134,9 +133,11 @@ fn list_schedules(o: Opening, ops: &[u16], bound: u32, room: &mut [u8]) -> Resul
     ensures { list_told bound room.old o ops.now ≡ (answer_says result, room.new) }
 {
     match tries::try_schedules(o.levels, o.queues, o.nodes, ops, bound, room) {
-        Tried::All(_, bytes) => Ok(Answer { bytes, more: false }),
-        Tried::More(_, bytes) => Ok(Answer { bytes, more: true }),
-        Tried::Refused(r) => tell_refused(r, room),
+        Ok(tried) => Ok(Answer {
+            bytes: tried.bytes,
+            more: tried.more,
+        }),
+        Err(number) => tell_refused(number, room),
     }
 }
 
@@ -145,11 +146,11 @@ fn count_schedules(o: Opening, ops: &[u16], room: &mut [u8]) -> Result<Answer, N
 {
     let mut tallies = [0u64; outcomes::TALLIES];
     match tries::tally_schedules(o.levels, o.queues, o.nodes, ops, &mut tallies) {
-        Number::Is(n) => match outcomes::write_outcomes(n, &tallies, o.queues, room) {
+        Ok(n) => match outcomes::write_outcomes(n, &tallies, o.queues, room) {
             Written::Bytes(bytes) => Ok(Answer { bytes, more: false }),
             Written::Refused(_) => Err(NoRoom),
         },
-        Number::Refused(number) => tell_refused(number, room),
+        Err(number) => tell_refused(number, room),
     }
 }
 
@@ -158,9 +159,9 @@ fn count_schedules(o: Opening, ops: &[u16], room: &mut [u8]) -> Result<Answer, N
 pub fn write_answer(text: &[u8], asked: Asked, room: &mut [u8]) -> Result<Answer, NoRoom>
     ensures { asked_told asked text.now room.old ≡ (answer_says result, room.new) }
 {
-    let mut words = [0u16; 24];
+    let mut words = [0u16; tasks::WORDS];
     match tasks::read_task(text, &mut words) {
-        Task::Is(o) => {
+        Ok(o) => {
             let n = 4 * usize::from(o.events);
             let ops = &words[..n];
             match asked {
@@ -168,8 +169,8 @@ pub fn write_answer(text: &[u8], asked: Asked, room: &mut [u8]) -> Result<Answer
                 Asked::Outcomes => count_schedules(o, ops, room),
             }
         }
-        Task::Wrong(line) => tell_wrong(line, room),
-        Task::Refused(number) => tell_refused(number, room),
+        Err(TaskError::Line(bad)) => tell_wrong(bad.0, room),
+        Err(TaskError::TooMany) => tell_refused(14, room),
     }
 }
 

@@ -1,16 +1,17 @@
 -- What the proofs of the writing cite.
-use Rattle.std.specs.Prelude.{ℕ, zero, suc, ◌+◌, ◌-◌, ◌≤◌, ◌<◌, ◌≡◌, refl, List, [], ◌∷◌, ◌++◌, Bool, true, false, cond, ◌&&◌, length, get_or, drop, leb, eqb}
-use Rattle.std.proofs.Common.{sym, ap, ◌∙◌, arith, zero-add, add-zero, add_assoc, add-one, sub-one, length-append, leb-true, le-leb}
+use Rattle.std.specs.Prelude.{ℕ, zero, suc, ◌+◌, ◌-◌, ◌≤◌, ◌<◌, ◌≡◌, refl, List, [], ◌∷◌, ◌++◌, Bool, true, false, cond, ◌&&◌, length, get_or, drop, leb, eqb, Option, Some, None}
+use Rattle.std.proofs.Common.{sym, ap, ◌∙◌, arith, zero-add, add-zero, add_assoc, add-one, sub-one, length-append, length-drop, get_or-drop, leb-true, le-leb}
 use Rattle.std.proofs.Math.Bool.{and-eq-true_iff}
 use Rattle.std.proofs.lemmas.List.Edits.{sets-eq}
 use Rattle.std.proofs.lemmas.Bool.{lt-leb}
+use Rattle.std.proofs.lemmas.Bool.Decides.{nat_tests}
+use Rattle.std.proofs.lemmas.Option.{some_pair_parts}
 use Rattle.words.specs.Layout.{level, queue, node}
 use Rattle.heads.specs.Put.{Put}
+use Rattle.heads.specs.Laws.{put_after, putting_starts, putting_goes_on, putting_ends}
 use Rattle.text.specs.declared.Opening.{Opening}
 use Rattle.text.specs.declared.Event.{Event}
 use Rattle.text.specs.declared.Event.TheVariants.{Enqueue, Dequeue, Steps}
-use Rattle.text.specs.declared.EventFound.{EventFound}
-use Rattle.text.specs.declared.EventFound.TheVariants.{Found, Nothing}
 use Rattle.text.specs.Text.{text_of, opening_text, event_text, events_text, longest}
 use Rattle.text.specs.Answer.{Answer, gives, refuses, onto}
 use Rattle.text.specs.Laws.{onto_is, onto_onto, given_is}
@@ -30,7 +31,7 @@ pub data Told (words : List ℕ) (at : ℕ) (e : Event) (next : ℕ) : Type 0 wh
       → Dequeue (level (get_or words (at + 1) 0)) (queue (get_or words (at + 2) 0)) ≡ e → Told words at e next
   stepped : at + 2 ≤ length words → at + 2 ≡ next → 1 ≤ get_or words (at + 1) 0 → Steps (get_or words (at + 1) 0) ≡ e → Told words at e next
 
-pub event_told : (words : List ℕ) (at next : ℕ) (e : Event) → event_in words at ≡ Found e next → Told words at e next
+pub event_told : (words : List ℕ) (at next : ℕ) (e : Event) → event_in words at ≡ Some (e, next) → Told words at e next
 unfolding event_in
 event_told words at next e h =
     by (is_kind words at 1 4) (is_kind words at 2 3) (is_kind words at 3 2) (leb 1 (get_or words (at + 1) 0))
@@ -38,20 +39,20 @@ event_told words at next e h =
   where
     by : (x y z t : Bool) → (x ≡ true → at + 4 ≤ length words) → (y ≡ true → at + 3 ≤ length words) → (z ≡ true → at + 2 ≤ length words)
         → (t ≡ true → 1 ≤ get_or words (at + 1) 0)
-        → cond x
-        (Found (Enqueue (level (get_or words (at + 1) 0)) (queue (get_or words (at + 2) 0)) (node (get_or words (at + 3) 0))) (at + 4))
-        (cond y (Found (Dequeue (level (get_or words (at + 1) 0)) (queue (get_or words (at + 2) 0))) (at + 3))
-        (cond (z && t) (Found (Steps (get_or words (at + 1) 0)) (at + 2)) Nothing))
-        ≡ Found e next
+        → cond {A = Option (Event × ℕ)} x
+        (Some (Enqueue (level (get_or words (at + 1) 0)) (queue (get_or words (at + 2) 0)) (node (get_or words (at + 3) 0)), at + 4))
+        (cond {A = Option (Event × ℕ)} y (Some (Dequeue (level (get_or words (at + 1) 0)) (queue (get_or words (at + 2) 0)), at + 3))
+        (cond {A = Option (Event × ℕ)} (z && t) (Some (Steps (get_or words (at + 1) 0), at + 2)) None))
+        ≡ Some (e, next)
         → Told words at e next
-    by true y z t f g h i k = enqueued (f refl) (cc) (cc)
-    by false true z t f g h i k = dequeued (g refl) (cc) (cc)
-    by false false true true f g h i k = stepped (h refl) (cc) (i refl) (cc)
-    by false false true false f g h i k = let z : ◌≡◌ {A = ℕ} 0 1 = cc in absurd (omega arith)
-    by false false false t f g h i k = let z : ◌≡◌ {A = ℕ} 0 1 = cc in absurd (omega arith)
+    by true y z t f g h i k = let (d, p) = some_pair_parts _ e (at + 4) next k in enqueued (f refl) p d
+    by false true z t f g h i k = let (d, p) = some_pair_parts _ e (at + 3) next k in dequeued (g refl) p d
+    by false false true true f g h i k = let (d, p) = some_pair_parts _ e (at + 2) next k in stepped (h refl) p (i refl) d
+    by false false true false f g h i k = cc
+    by false false false t f g h i k = cc
 
 -- the words of an event are among the words
-pub event_on : (words : List ℕ) (at next : ℕ) (e : Event) → event_in words at ≡ Found e next → next ≤ length words
+pub event_on : (words : List ℕ) (at next : ℕ) (e : Event) → event_in words at ≡ Some (e, next) → next ≤ length words
 event_on words at next e h = by (event_told words at next e h)
   where
     by : Told words at e next → next ≤ length words
@@ -59,14 +60,14 @@ event_on words at next e h = by (event_told words at next e h)
     by (dequeued r n k) = omega arith
     by (stepped r n c k) = omega arith
 
-pub lengths_more : (n k line : ℕ) (words : List ℕ) (at next : ℕ) (e : Event) → 0 < k → event_in words at ≡ Found e next
+pub lengths_more : (n k line : ℕ) (words : List ℕ) (at next : ℕ) (e : Event) → 0 < k → event_in words at ≡ Some (e, next)
     → lengths_in n k line words at ≡ lengths_in (n + length (event_text e)) (k - 1) (line + 1) words next
 unfolding lengths_in events_in found events_text
 lengths_more n zero line words at next e h f = absurd (omega arith)
 lengths_more n (suc k) line words at next e h f =
     simp (f, sub-one, add-one, onto_onto, length-append, add_assoc)
 
-pub lengths_stop : (n k line : ℕ) (words : List ℕ) (at : ℕ) → 0 < k → event_in words at ≡ Nothing
+pub lengths_stop : (n k line : ℕ) (words : List ℕ) (at : ℕ) → 0 < k → event_in words at ≡ None
     → lengths_in n k line words at ≡ refuses 13 (line ∷ [])
 unfolding lengths_in events_in found no_text
 lengths_stop n zero line words at h f = absurd (omega arith)
@@ -77,13 +78,13 @@ unfolding lengths_in events_in events_text
 lengths_none n zero line words at h = rw add-zero
 lengths_none n (suc k) line words at h = absurd (omega arith)
 
-pub lines_more : (k : ℕ) (words : List ℕ) (at next : ℕ) (e : Event) → 0 < k → event_in words at ≡ Found e next
+pub lines_more : (k : ℕ) (words : List ℕ) (at next : ℕ) (e : Event) → 0 < k → event_in words at ≡ Some (e, next)
     → lines_in k words at ≡ event_text e ++ lines_in (k - 1) words next
 unfolding lines_in
 lines_more zero words at next e h f = absurd (omega arith)
 lines_more (suc k) words at next e h f = simp (f, sub-one)
 
-pub lines_stop : (k : ℕ) (words : List ℕ) (at : ℕ) → event_in words at ≡ Nothing → lines_in k words at ≡ []
+pub lines_stop : (k : ℕ) (words : List ℕ) (at : ℕ) → event_in words at ≡ None → lines_in k words at ≡ []
 unfolding lines_in
 lines_stop zero words at f = refl
 lines_stop (suc k) words at f = simp f
@@ -93,10 +94,10 @@ unfolding lines_in
 lines_none zero words at h = refl
 lines_none (suc k) words at h = absurd (omega arith)
 
-pub found_is : (line : ℕ) (r : EventFound) (e : Event) (next : ℕ) → found line r ≡ gives (e, next) → r ≡ Found e next
+pub found_is : (line : ℕ) (r : Option (Event × ℕ)) (e : Event) (next : ℕ) → found line r ≡ gives (e, next) → r ≡ Some (e, next)
 unfolding found no_text
-found_is line (Found d p) e next h = let x = given_is d e p next h in rw (x.0, x.1)
-found_is line Nothing e next h = let z : ◌≡◌ {A = ℕ} 0 1 = cc in absurd (omega arith)
+found_is line (Some (d, p)) e next h = let x = given_is d e p next h in rw (x.0, x.1)
+found_is line None e next h = cc
 
 -- the lines are those of the events
 told_lines : (k line : ℕ) (words : List ℕ) (at : ℕ) (es : List Event) → events_in k line words at ≡ gives es → lines_in k words at ≡ events_text es
@@ -109,7 +110,7 @@ told_lines (suc k) line words at es h =
     simp (found_is line (event_in words at) a.0.0 a.0.1 a.1, told_lines k (suc line) words a.0.1 b.0 b.1)
     (ap events_text e)
 
-pub lines_room : (k : ℕ) (words : List ℕ) (at next : ℕ) (e : Event) → 0 < k → event_in words at ≡ Found e next
+pub lines_room : (k : ℕ) (words : List ℕ) (at next : ℕ) (e : Event) → 0 < k → event_in words at ≡ Some (e, next)
     → length (event_text e) ≤ length (lines_in k words at)
 lines_room k words at next e h f =
     omega (arith, simp length-append at (ap length (lines_more k words at next e h f)))
@@ -162,7 +163,7 @@ saying words o es h = by (leb 4 (length words)) refl h
         let a = onto_is (events_in (opening_in words).events 6 words 4) _ (o, es) k in
         let x = given_is (opening_in words) o a.0 es a.2 in
         record { enough = leb-true 4 (length words) f; opening = x.0; events = a.1 ∙ ap (λ (l : List Event). gives l) x.1 }
-    by false f k = let z : ◌≡◌ {A = ℕ} 0 1 = cc in absurd (omega arith)
+    by false f k = cc
 
 pub record Fitting (s t : List ℕ) : Type 0 where
   pub is : s ≡ t
@@ -174,7 +175,7 @@ fitting_is s t h = by (leb (length s) longest) refl h
   where
     by : (b : Bool) → leb (length s) longest ≡ b → cond b (gives s) (no_text 0) ≡ gives t → Fitting s t
     by true f h = record { is = cc; short = leb-true (length s) longest f }
-    by false f h = let z : ◌≡◌ {A = ℕ} 0 1 = cc in absurd (omega arith)
+    by false f h = cc
 
 -- what a length that was measured says
 pub record Ready (words : List ℕ) (n : ℕ) : Type 0 where
@@ -225,8 +226,21 @@ unfolding writing into_room measuring
 has_none words room number values h = by (text_in words) h
   where
     by : (t : Answer (List ℕ)) → onto t (λ s. gives (length s)) ≡ refuses number values → into_room room t ≡ (refuses number values, room)
-    by (gives s) k = let z : ◌≡◌ {A = ℕ} 0 1 = cc in absurd (omega arith)
+    by (gives s) k = cc
     by (refuses n vs) k =
         let a : n ≡ number = cc in
         let b : vs ≡ values = cc in
         rw (a, b)
+
+-- what the functions' proofs go by
+pub ruleset kinds = (nat_tests, get_or-drop, length-drop)
+
+pub ruleset lengths = (event_on, lengths_more, lengths_stop, lengths_none)
+
+pub ruleset measures = (measuring_is, measuring_short, nat_tests)
+
+pub ruleset puts = (event_on, lines_more, lines_stop, lines_none, lines_room, putting_starts, putting_goes_on, putting_ends)
+
+pub ruleset wholes = (whole_is, whole_length, put_after)
+
+pub ruleset ends = (ready, written, not_written, has_none)

@@ -1,10 +1,9 @@
 -- From words to schedules that can be written, and back.
-use Rattle.std.specs.Prelude.{ℕ, zero, suc, ◌+◌, ◌≤◌, ◌≡◌, refl, List, [], ◌∷◌, ◌++◌, Bool, true, false, ◌&&◌, length, get_or, drop}
+use Rattle.std.specs.Prelude.{ℕ, zero, suc, ◌+◌, ◌≤◌, ◌≡◌, refl, List, [], ◌∷◌, ◌++◌, Bool, true, false, ◌&&◌, length, get_or, drop, Some}
 use Rattle.std.proofs.Common.{sym, ap, ◌∙◌, append_assoc, append-nil, arith, add-zero, length-drop, get_or-drop, le-leb}
 use Rattle.text.specs.declared.Opening.{Opening}
 use Rattle.text.specs.declared.Event.{Event}
 use Rattle.text.specs.declared.Event.TheVariants.{Enqueue, Dequeue, Steps}
-use Rattle.text.specs.declared.EventFound.TheVariants.{Found}
 use Rattle.text.specs.Text.{text_of, longest}
 use Rattle.text.specs.Answer.{gives}
 use Rattle.text.specs.Laws.{onto_is}
@@ -17,7 +16,7 @@ use Rattle.writing.specs.Laws.{Told, enqueued, dequeued, stepped, event_told, fo
 abbrev pub all_small : List ℕ → Type 0
 all_small words = (i : ℕ) → small (get_or words i 0)
 
-event_sound : (words : List ℕ) (at next : ℕ) (e : Event) → all_small words → event_in words at ≡ Found e next → sound e
+event_sound : (words : List ℕ) (at next : ℕ) (e : Event) → all_small words → event_in words at ≡ Some (e, next) → sound e
 unfolding sound
 event_sound words at next e s h = by (event_told words at next e h)
   where
@@ -92,7 +91,7 @@ and_false false = refl
 
 record EventNext (e : Event) (words : List ℕ) (at : ℕ) (rest : List ℕ) : Type 0 where
   next : ℕ
-  is : event_in words at ≡ Found e next
+  is : event_in words at ≡ Some (e, next)
   then : drop next words ≡ rest
 
 event_next : (e : Event) (words rest : List ℕ) (at : ℕ) → sound e → drop at words ≡ event_words e ++ rest → EventNext e words at rest

@@ -1,17 +1,18 @@
 -- Two results that the contract of the writing allows coincide, the room afterwards with them.
-use Rattle.std.specs.Prelude.{ℕ, ◌≡◌, refl, List, [], ◌∷◌}
+use Rattle.std.specs.Prelude.{ℕ, ◌≡◌, refl, List, [], ◌∷◌, Result, Ok, Err}
 use Rattle.std.proofs.Common.{sym, ap, ◌∙◌}
 use Rattle.text.specs.Answer.{Answer, gives, refuses}
 use Rattle.text.specs.Unique.{coincide}
-use Rattle.writing.specs.declared.Written.{Written}
+use Rattle.writing.specs.declared.WriteError.{WriteError}
+use Rattle.writing.specs.declared.WriteError.TheVariants.{Line, NoRoom}
 use Rattle.writing.specs.Writing.{written_answer}
 
-written_back : Answer ℕ → Written
-written_back (gives n) = Written.Length n
-written_back (refuses number []) = Written.NoRoom
-written_back (refuses number (line ∷ vs)) = Written.Refused line
+written_back : Answer ℕ → Result ℕ WriteError
+written_back (gives n) = Ok n
+written_back (refuses number []) = Err NoRoom
+written_back (refuses number (line ∷ vs)) = Err (Line (record { 0 = line }))
 
-pub one_writing : {x : Answer ℕ × List ℕ} {r s : Written} {a b : List ℕ} → x ≡ (written_answer r, a) → x ≡ (written_answer s, b)
+pub one_writing : {x : Answer ℕ × List ℕ} {r s : Result ℕ WriteError} {a b : List ℕ} → x ≡ (written_answer r, a) → x ≡ (written_answer s, b)
     → (r ≡ s) × (a ≡ b)
 unfolding written_answer written_back
 one_writing p q = (
@@ -19,7 +20,7 @@ one_writing p q = (
   ap (λ (y : Answer ℕ × List ℕ). y.1) (sym p ∙ q),
 )
   where
-    back : (r : Written) → written_back (written_answer r) ≡ r
-    back (Written.Length n) = refl
-    back (Written.Refused line) = refl
-    back Written.NoRoom = refl
+    back : (r : Result ℕ WriteError) → written_back (written_answer r) ≡ r
+    back (Ok n) = refl
+    back (Err (Line bad)) = refl
+    back (Err NoRoom) = refl

@@ -1,14 +1,13 @@
 -- The writing of a schedule that is given as words: L, Q, N, the count of events, and then each event.
-use Rattle.std.specs.Prelude.{ℕ, zero, suc, ◌+◌, List, [], ◌∷◌, ◌++◌, Bool, cond, ◌&&◌, length, get_or, drop, leb, eqb}
+use Rattle.std.specs.Prelude.{ℕ, zero, suc, ◌+◌, List, [], ◌∷◌, ◌++◌, Bool, cond, ◌&&◌, length, get_or, drop, leb, eqb, Option, Some, None, Result, Ok, Err}
 use Rattle.words.specs.Layout.{level, queue, node}
 use Rattle.text.specs.declared.Opening.{Opening}
 use Rattle.text.specs.declared.Event.{Event}
 use Rattle.text.specs.declared.Event.TheVariants.{Enqueue, Dequeue, Steps}
-use Rattle.text.specs.declared.EventFound.{EventFound}
-use Rattle.text.specs.declared.EventFound.TheVariants.{Found, Nothing}
 use Rattle.text.specs.Text.{text_of, longest}
 use Rattle.text.specs.Answer.{Answer, gives, refuses, onto}
-use Rattle.writing.specs.declared.Written.{Written}
+use Rattle.writing.specs.declared.WriteError.{WriteError}
+use Rattle.writing.specs.declared.WriteError.TheVariants.{Line, NoRoom}
 
 -- a schedule's words: an event is 1 level queue node, 2 level queue, or 3 count
 unfoldable pub event_words : Event → List ℕ
@@ -28,21 +27,21 @@ unfoldable pub is_kind : List ℕ → ℕ → ℕ → ℕ → Bool
 is_kind words at kind n = leb (at + n) (length words) && eqb (get_or words at 0) kind
 
 -- the event at a place, S with a count of 1 or more, and the place after its words
-unfoldable pub event_in : List ℕ → ℕ → EventFound
+unfoldable pub event_in : List ℕ → ℕ → Option (Event × ℕ)
 event_in words at =
     cond (is_kind words at 1 4)
-    (Found (Enqueue (level (get_or words (at + 1) 0)) (queue (get_or words (at + 2) 0)) (node (get_or words (at + 3) 0))) (at + 4))
+    (Some (Enqueue (level (get_or words (at + 1) 0)) (queue (get_or words (at + 2) 0)) (node (get_or words (at + 3) 0)), at + 4))
     (cond (is_kind words at 2 3)
-    (Found (Dequeue (level (get_or words (at + 1) 0)) (queue (get_or words (at + 2) 0))) (at + 3))
-    (cond (is_kind words at 3 2 && leb 1 (get_or words (at + 1) 0)) (Found (Steps (get_or words (at + 1) 0)) (at + 2)) Nothing))
+    (Some (Dequeue (level (get_or words (at + 1) 0)) (queue (get_or words (at + 2) 0)), at + 3))
+    (cond (is_kind words at 3 2 && leb 1 (get_or words (at + 1) 0)) (Some (Steps (get_or words (at + 1) 0), at + 2)) None))
 
 -- what is given has no text: the line that cannot be written
 unfoldable pub no_text : {A : Type 0} → ℕ → Answer A
 no_text line = refuses 13 (line ∷ [])
 
-unfoldable pub found : ℕ → EventFound → Answer (Event × ℕ)
-found line (Found e next) = gives (e, next)
-found line Nothing = no_text line
+unfoldable pub found : ℕ → Option (Event × ℕ) → Answer (Event × ℕ)
+found line (Some e) = gives e
+found line None = no_text line
 
 -- so many events, the first of them on this line
 unfoldable pub events_in : ℕ → ℕ → List ℕ → ℕ → Answer (List Event)
@@ -79,7 +78,7 @@ unfoldable pub writing : List ℕ → List ℕ → Answer ℕ × List ℕ
 writing words room = into_room room (text_in words)
 
 -- the number and values of each case of an answer
-unfoldable pub written_answer : Written → Answer ℕ
-written_answer (Written.Length n) = gives n
-written_answer (Written.Refused line) = refuses 13 (line ∷ [])
-written_answer Written.NoRoom = refuses 12 []
+unfoldable pub written_answer : Result ℕ WriteError → Answer ℕ
+written_answer (Ok n) = gives n
+written_answer (Err (Line bad)) = refuses 13 (bad.0 ∷ [])
+written_answer (Err NoRoom) = refuses 12 []

@@ -1,23 +1,28 @@
-use mathlib.Core.Path.{refl, sym, ◌∙◌}
-use lib.ListN.{drop}
-use borrow.Author.Tests.{eq-eqb, ne_eqb}
-use Rattle.heads.specs.Heads.{stands_at}
-use Rattle.heads.specs.Laws.{begins_more, begins_short, begins_all}
-use borrow.Author.Rules.{rules}
+use Rattle.std.specs.Prelude.{ℕ, ◌+◌, ◌<◌, ◌≤◌, ◌≡◌, refl, List, [], ◌∷◌, ◌⊎◌, length, take, drop, eqb, slice_range, Option, Some, None, MatchOption, unwrap_or}
+use Rattle.std.specs.Borrow.{Bor}
+use Rattle.std.proofs.Common.{sym, ap, ◌∙◌, arith, drop_of_length-le, inl, inr}
+use Rattle.std.specs.Cmp.Lexicographic.{pointwise}
+use Rattle.std.proofs.lemmas.Bool.Decides.{nat_tests}
+use Rattle.std.proofs.lemmas.Slice.{between_to_end}
+use Rattle.heads.specs.Heads.{begins, stands_at}
 use Rattle.heads.proofs.stands_at.Goals as goal
 
-pub loop-i-init : goal.loop-i-init
-unfolding stands_at
-loop-i-init c = (search rules, refl)
+-- the bytes from a place on, and none past the end
+rest_of : (r : Option (Bor (List ℕ))) (none x : Bor (List ℕ)) (s : List ℕ) (p : ℕ) → x ≡ unwrap_or r none → none.now ≡ []
+    → MatchOption r ((length s < p) ⊎ (length s < length s)) (λ x. (p ≤ length s) × (length s ≤ length s) × (x.now ≡ slice_range s p (length s)) × (length x.now + p ≡ length s))
+    → x.now ≡ drop p s
+rest_of None none x s p e f (inl h) = ap (λ (b : Bor (List ℕ)). b.now) e ∙ f ∙ sym (drop_of_length-le s {i = p} (omega arith))
+rest_of None none x s p e f (inr h) = absurd (omega arith)
+rest_of (Some y) none x s p e f h = ap (λ (b : Bor (List ℕ)). b.now) e ∙ h.2 ∙ between_to_end s p (length s) (omega arith)
 
-pub loop-i-preserved : goal.loop-i-preserved
-loop-i-preserved c = (search rules, c.loop-i.invariant.1 ∙ simp (begins_more c.args.head.now c.args.text.now c.loop-i.i c.loop-i.at c.loop-i-test.true c.if-at-text.true, eq-eqb _ _ c.if-text-at.true))
-
-pub returns-else-text-at : goal.returns-else-text-at
-returns-else-text-at c = sym (c.loop-i.invariant.1 ∙ simp (begins_more c.args.head.now c.args.text.now c.loop-i.i c.loop-i.at c.loop-i-test.true c.if-at-text.true, ne_eqb _ _ c.if-text-at.false))
-
-pub returns-else-at-text : goal.returns-else-at-text
-returns-else-at-text c = sym (c.loop-i.invariant.1 ∙ begins_short c.args.head.now c.args.text.now c.loop-i.i c.loop-i.at c.loop-i-test.true c.if-at-text.false)
+begins_is : (h s : List ℕ) → begins h s ≡ pointwise eqb h (take (length h) s)
+unfolding begins
+begins_is [] s = refl
+begins_is (h ∷ hs) [] = refl
+begins_is (h ∷ hs) (b ∷ s) = grind (arith, nat_tests, begins_is hs s)
 
 pub returns : goal.returns
-returns c = sym (c.loop-i.invariant.1 ∙ begins_all c.args.head.now (drop c.loop-i.at c.args.text.now) c.loop-i.i c.loop-i-test.false)
+unfolding stands_at
+returns c =
+    let rest = rest_of c.get.result _ _ c.args.text.now c.args.place c.unwrap_or.ensures refl c.get.ensures.lookup.0 in
+    rw (begins_is c.args.head.now, ← rest) c.starts_with.ensures.value

@@ -1,20 +1,20 @@
 use Rattle.std.proofs.Common.{sym, ◌∙◌, arith}
-use Rattle.text.specs.Reading.{event_answer}
+use Rattle.text.specs.Reading.{line_answer}
 use Rattle.play.specs.Laws.{event_played, event_refused, place_wrong, place_none}
 use Rattle.play.proofs.play_events.Goals as goal
 
 pub loop-i-preserved : goal.loop-i-preserved
-unfolding event_answer
+unfolding line_answer
 loop-i-preserved c =
     let so_far = c.loop-i.invariant in
     let done = c.in_default-play_event.ensures in
     record {
       same_room = done.same_room ∙ so_far.same_room;
-      others = so_far.others ∙ event_played _ _ _ _ _ _ _ _ _ _ _ c.loop-i-test.true (sym c.in-Read.ensures) done.played;
+      others = so_far.others ∙ event_played _ _ _ _ _ _ _ _ _ _ _ c.loop-i-test.true (sym c.in-Ok.ensures) done.played;
     }
 
 pub returns-in-Refused : goal.returns-in-Refused
-unfolding event_answer
+unfolding line_answer
 returns-in-Refused c =
     let so_far = c.loop-i.invariant in
     let done = c.in-Refused.ensures in
@@ -22,11 +22,11 @@ returns-in-Refused c =
     record {
       same_room = line.same_room ∙ done.same_room ∙ so_far.same_room;
       played = so_far.others
-          ∙ event_refused _ _ _ _ _ _ _ _ _ _ _ c.loop-i-test.true (sym c.in-Read.ensures) _ _ done.played line.inked;
+          ∙ event_refused _ _ _ _ _ _ _ _ _ _ _ c.loop-i-test.true (sym c.in-Ok.ensures) _ _ done.played line.inked;
     }
 
 pub returns-in_default : goal.returns-in_default
-unfolding event_answer
+unfolding line_answer
 returns-in_default c = record {
   same_room = c.loop-i.invariant.same_room;
   played = c.loop-i.invariant.others ∙ place_wrong _ _ _ _ _ _ _ _ _ (sym c.in_default.ensures);

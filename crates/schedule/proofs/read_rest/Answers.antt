@@ -1,18 +1,10 @@
-use mathlib.Core.Path.{refl, sym, ap, ◌∙◌}
-use Rattle.text.specs.Reading.{event_answer, end_answer}
-use Rattle.schedule.specs.Laws.{rest_more, rest_none}
+use Rattle.std.proofs.Common.{◌+◌, ◌-◌, sym, ◌∙◌, arith}
+use Rattle.text.specs.Reading.{line_answer}
+use Rattle.schedule.specs.Laws.{rest_goes_on}
 use Rattle.schedule.proofs.read_rest.Goals as goal
 
-pub loop-left-init : goal.loop-left-init
-loop-left-init c = refl
-
-pub loop-left-preserved : goal.loop-left-preserved
-unfolding event_answer
-loop-left-preserved c = sym (rest_more c.loop-left.left c.args.text.now c.loop-left.at c.loop-left-test.true ∙ simp (sym c.event_at.ensures ∙ ap event_answer c.in-Read.is)) ∙ c.loop-left.invariant
-
-pub returns-in-Refused : goal.returns-in-Refused
-unfolding event_answer end_answer
-returns-in-Refused c = sym (rest_more c.loop-left.left c.args.text.now c.loop-left.at c.loop-left-test.true ∙ simp (sym c.event_at.ensures ∙ ap event_answer c.in-Refused.is)) ∙ c.loop-left.invariant
-
-pub returns : goal.returns
-returns c = c.read_end.ensures ∙ sym (rest_none c.loop-left.left c.args.text.now c.loop-left.at c.loop-left-test.false) ∙ c.loop-left.invariant
+pub loop-preserved : goal.loop-preserved
+unfolding line_answer
+loop-preserved g c =
+    let next = rest_goes_on g.E.Events.reading (c.args.count - c.loop.counter) (c.args.count - (c.loop.counter + 1)) c.args.text.now c.loop.at _ (omega arith) (sym c.in_ok-at.ensures) in
+    sym next ∙ c.loop.invariant

@@ -1,9 +1,7 @@
-use mathlib.Core.Path.{◌≡◌}
-use Rattle.schedule.specs.Whole.{rest_reading}
+use Rattle.std.proofs.Common.{◌≡◌, ◌-◌}
+use Rattle.schedule.specs.Whole.{rest_by}
 use Rattle.schedule.proofs.read_rest.Given as goal
 
-abbrev pub invariant-loop-left : goal.invariant-loop-left
-invariant-loop-left l = rest_reading l.left l.text l.at ≡ rest_reading l.count l.text l.place
-
-abbrev pub decreases-loop-left : goal.decreases-loop-left
-decreases-loop-left l = l.left
+abbrev pub invariant-loop : goal.invariant-loop
+invariant-loop g l =
+    rest_by g.E.Events.reading (l.count - l.counter) l.text l.at ≡ rest_by g.E.Events.reading l.count l.text l.fn.place

@@ -1,34 +1,17 @@
-use Prim.Native.Nat.{◌-◌}
-use mathlib.Core.Path.{refl, sym, ◌∙◌}
-use native.Mathlib.Omega.{arith}
-use Rattle.text.specs.Reading.{event_answer}
+use Rattle.std.proofs.Common.{◌+◌, ◌-◌, ◌≡◌, sym, ◌∙◌, arith}
+use Rattle.text.specs.Reading.{line_answer}
 use Rattle.tasks.specs.Parts.{words_from}
-use Rattle.tasks.specs.Laws.{words_short, words_more, words_wrong, words_none, sets_after}
+use Rattle.tasks.specs.Laws.{words_short, words_more, sets_after}
 use Rattle.tasks.proofs.put_operations.Goals as goal
 
-pub loop-left-init : goal.loop-left-init
-loop-left-init c = (omega arith, refl)
-
-pub loop-left-preserved : goal.loop-left-preserved
-unfolding event_answer
-loop-left-preserved c = let loop = c.loop-left in
-    let event_at = c.event_at.ensures in
-    let e_is = c.in-Read.is in
-    let taken = c.loop-left-test.true in
+pub loop-preserved : goal.loop-preserved
+unfolding line_answer
+loop-preserved c =
     let text = c.args.text.now in
-    let next = c.in-Read.next in
-    let put = c.put_operation-n.ensures in
-    let short = words_short c.in-Read.e in
-    let more = words_more loop.left text loop.at _ next taken (sym (rw e_is at event_at)) in
-    let after = sets_after (words_from (loop.left - 1) text next) put in
-    (omega (arith, loop.invariant.0, put.next, short, taken), after ∙ rw (sym more) loop.invariant.1)
-
-pub returns-in-Refused : goal.returns-in-Refused
-unfolding event_answer
-returns-in-Refused c = let loop = c.loop-left in
-    let event_at = c.event_at.ensures in
-    let told = c.in-Refused.is in
-    rw (words_wrong loop.left _ loop.at _ _ (sym (rw told at event_at))) at loop.invariant.1
-
-pub returns : goal.returns
-returns c = let loop = c.loop-left in rw (words_none loop.left _ loop.at c.loop-left-test.false) at loop.invariant.1
+    let left = c.args.count - c.loop.counter in
+    let more = words_more left text c.loop.at c.in-Ok.e c.in-Ok.next (omega arith) (sym c.in-Ok.ensures) in
+    let less : left - 1 ≡ c.args.count - (c.loop.counter + 1) = omega arith in
+    let after = sets_after (words_from (left - 1) text c.in-Ok.next) c.put_operation-n.ensures in (
+      omega (arith, c.loop.invariant.0, c.put_operation-n.ensures.next, words_short c.in-Ok.e),
+      rw (← less) (after ∙ rw (sym more) c.loop.invariant.1),
+    )

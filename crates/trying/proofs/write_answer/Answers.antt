@@ -6,32 +6,32 @@ use Rattle.trying.proofs.write_answer.Goals as goal
 
 pub slice_bounds-words-end : goal.slice_bounds-words-end
 unfolding task_says
-slice_bounds-words-end c = task_fits _ _ _ _ _ (omega arith) (rw c.in-Is.is at c.read_task.ensures) c.from-n.ensures
+slice_bounds-words-end c = task_fits _ _ _ _ _ (omega arith) c.in-Ok.ensures c.from-n.ensures
 
 pub slice_bounds-ops-end : goal.slice_bounds-ops-end
 unfolding task_says
-slice_bounds-ops-end c =
-    sym (length-take-le _ _ (task_fits _ _ _ _ _ (omega arith) (rw c.in-Is.is at c.read_task.ensures) c.from-n.ensures))
+slice_bounds-ops-end c = sym (length-take-le _ _ (task_fits _ _ _ _ _ (omega arith) c.in-Ok.ensures c.from-n.ensures))
 
 pub returns-in-Schedules : goal.returns-in-Schedules
 unfolding task_says
 returns-in-Schedules c =
-    let task = rw c.in-Is.is at c.read_task.ensures in
     rw c.in-Schedules.is
-    (task_told_holds (list_told _ _) _ _ _ _ _ _ _ (omega arith) task c.from-n.ensures c.list_schedules.ensures)
+    (task_told_holds (list_told _ _) _ _ _ _ _ _ _ (omega arith) c.in-Ok.ensures c.from-n.ensures c.list_schedules.ensures)
 
 pub returns-in-Outcomes : goal.returns-in-Outcomes
 unfolding task_says
 returns-in-Outcomes c =
-    let task = rw c.in-Is.is at c.read_task.ensures in
     rw c.in-Outcomes.is
-    (task_told_holds (count_told _) _ _ _ _ _ _ _ (omega arith) task c.from-n.ensures c.count_schedules.ensures)
+    (task_told_holds (count_told _) _ _ _ _ _ _ _ (omega arith) c.in-Ok.ensures c.from-n.ensures c.count_schedules.ensures)
 
-pub returns-in-Wrong : goal.returns-in-Wrong
+pub returns-in-Err-Line : goal.returns-in-Err-Line
 unfolding task_says
-returns-in-Wrong c = wrong_told (asked_of c.args.asked _) _ _ _ _ _ _ (rw c.in-Wrong.is at c.read_task.ensures) c.tell_wrong.ensures
+returns-in-Err-Line c =
+    wrong_told (asked_of c.args.asked _) _ _ _ _ _ _ (rw (c.in-Err-Line.field-0-is, ← c.in-Err-Line.bad-is) at c.in-Err-Line.ensures)
+    c.tell_wrong.ensures
 
-pub returns-in-Refused : goal.returns-in-Refused
+pub returns-in-Err-TooMany : goal.returns-in-Err-TooMany
 unfolding task_says
-returns-in-Refused c =
-    refused_told_holds (asked_of c.args.asked _) _ _ _ _ _ _ (rw c.in-Refused.is at c.read_task.ensures) c.tell_refused.ensures
+returns-in-Err-TooMany c =
+    refused_told_holds (asked_of c.args.asked _) _ _ _ _ _ _ (rw c.in-Err-TooMany.field-0-is at c.in-Err-TooMany.ensures)
+    c.tell_refused.ensures

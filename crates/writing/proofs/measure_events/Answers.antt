@@ -1,19 +1,16 @@
-use mathlib.Core.Path.{refl, sym, ◌∙◌}
-use Rattle.writing.specs.Parts.{measured_answer}
-use Rattle.writing.specs.Laws.{event_on, lengths_more, lengths_stop, lengths_none}
-use borrow.Author.Rules.{rules}
+use Rattle.std.proofs.Common.{◌+◌, ◌-◌, ◌≡◌, sym, ◌∙◌, arith, Some}
+use Rattle.writing.specs.Writing.{event_in}
+use Rattle.writing.specs.Laws.{event_on, lengths_more}
 use Rattle.writing.proofs.measure_events.Goals as goal
 
-pub loop-left-init : goal.loop-left-init
-loop-left-init c = (search rules, search rules, search rules, search rules, refl)
-
-pub loop-left-preserved : goal.loop-left-preserved
-loop-left-preserved c = (event_on c.args.words.now c.loop-left.at _ _ (sym c.event_in.ensures ∙ c.in-Found.is), search rules, search rules, search rules, simp c.event_length-n.ensures.0 (sym (lengths_more c.loop-left.n c.loop-left.left c.loop-left.line c.args.words.now c.loop-left.at _ _ c.loop-left-test.true (sym c.event_in.ensures ∙ c.in-Found.is)) ∙ c.loop-left.invariant.4))
-
-pub returns-in-Nothing : goal.returns-in-Nothing
-unfolding measured_answer
-returns-in-Nothing c = sym (lengths_stop c.loop-left.n c.loop-left.left c.loop-left.line c.args.words.now c.loop-left.at c.loop-left-test.true (sym c.event_in.ensures ∙ c.in-Nothing.is)) ∙ c.loop-left.invariant.4
-
-pub returns : goal.returns
-unfolding measured_answer
-returns c = sym (lengths_none c.loop-left.n c.loop-left.left c.loop-left.line c.args.words.now c.loop-left.at c.loop-left-test.false) ∙ c.loop-left.invariant.4
+pub loop-line-preserved : goal.loop-line-preserved
+loop-line-preserved c =
+    let words = c.args.words.now in
+    let l = c.loop-line in
+    let left = 6 + c.args.count - l.line in
+    let is : event_in words l.at ≡ Some (c.in_ok-e.e, c.in_ok-e.next) = grind arith in
+    let less : left - 1 ≡ 6 + c.args.count - (l.line + 1) = omega arith in (
+      event_on words l.at _ _ is,
+      omega (arith, l.invariant.1, c.event_length-n.ensures.1),
+      rw (c.event_length-n.ensures.0, ← less) (sym (lengths_more l.n left l.line words l.at _ _ (omega arith) is) ∙ l.invariant.2),
+    )

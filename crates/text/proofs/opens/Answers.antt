@@ -1,8 +1,0 @@
-use mathlib.Core.Path.{sym, ◌∙◌}
-use Rattle.text.proofs.opens.Goals as goal
-
-pub returns-then-line_starts : goal.returns-then-line_starts
-returns-then-line_starts c = simp (sym c.line_starts.ensures ∙ c.if-line_starts.true, c.stands_at.ensures)
-
-pub returns-else-line_starts : goal.returns-else-line_starts
-returns-else-line_starts c = simp (sym c.line_starts.ensures ∙ c.if-line_starts.false)
