@@ -1,20 +1,14 @@
 -- An answer says one thing only: two answers that say the same are the same. A contract is one equation between what the
 -- definition gives and what is said, with every lent word afterwards; so two results that it allows coincide.
-use Rattle.std.specs.Prelude.{ℕ, ◌≡◌, Bool}
-use Rattle.std.proofs.Common.{sym, ◌∙◌, ap}
-use Rattle.answers.specs.declared.Done.{Done}
-use Rattle.answers.specs.declared.Done.TheVariants as done
-use Rattle.answers.specs.declared.Stepped.{Stepped}
-use Rattle.answers.specs.declared.Stepped.TheVariants as stepped
+use Rattle.std.specs.Prelude.{ℕ, ◌≡◌, Option, Some, None, Result, Ok, Err, cond, eqb}
+use Rattle.std.proofs.Common.{refl, sym, ◌∙◌, ap}
+use Rattle.answers.specs.declared.End.{End}
 use Rattle.answers.specs.declared.Ran.{Ran}
-use Rattle.answers.specs.declared.Ran.TheVariants as ran
-use Rattle.answers.specs.declared.Quiet.{Quiet}
-use Rattle.answers.specs.declared.Quiet.TheVariants as quiet
-use Rattle.answers.specs.declared.Counted.{Counted}
-use Rattle.answers.specs.declared.Counted.TheVariants as counted
-use Rattle.answers.specs.declared.Waiting.{Waiting}
-use Rattle.answers.specs.declared.Waiting.TheVariants as waiting
-use Rattle.answers.specs.Said.{Said, done_says, step_says, run_says, quiet_says, count_says, waiting_says}
+use Rattle.answers.specs.declared.Why.{Why}
+use Rattle.answers.specs.declared.Why.TheVariants as why
+use Rattle.answers.specs.declared.Refusal.{Refusal}
+use Rattle.answers.specs.declared.Refusal.TheVariants as refusal
+use Rattle.answers.specs.Said.{number, answer_says, step_says, why_says, run_says}
 
 -- of a call that only reads, whatever it answers
 pub once_read : {A S : Type 0} (say : A → S) → ((a b : A) → say a ≡ say b → a ≡ b) → {x : S} {a b : A} → x ≡ say a → x ≡ say b → a ≡ b
@@ -25,73 +19,76 @@ pub once : {A S B : Type 0} (say : A → S) → ((a b : A) → say a ≡ say b �
     → x ≡ (say a, t) → x ≡ (say b, u) → (a ≡ b) × (t ≡ u)
 once say one p q = (once_read say one (ap (λ y. y.0) p) (ap (λ y. y.0) q), ap (λ y. y.1) (sym p ∙ q))
 
-pub one_done : (a b : Done) → done_says a ≡ done_says b → a ≡ b
-one_done done.Yes = elim [ done.Yes ↦ λ e. cc | done.Refused y ↦ λ e. cc ]
-one_done (done.Refused x) = elim [ done.Yes ↦ λ e. cc | done.Refused y ↦ λ e. cc ]
+-- ---- the refusal that has a number
 
-pub one_step : (a b : Stepped) → step_says a ≡ step_says b → a ≡ b
-one_step stepped.GoingOn = elim [ stepped.GoingOn ↦ λ e. cc | stepped.Ended y ↦ λ e. cc | stepped.Refused y ↦ λ e. cc ]
-one_step (stepped.Ended x) = elim [ stepped.GoingOn ↦ λ e. cc | stepped.Ended y ↦ λ e. cc | stepped.Refused y ↦ λ e. cc ]
-one_step (stepped.Refused x) = elim [ stepped.GoingOn ↦ λ e. cc | stepped.Ended y ↦ λ e. cc | stepped.Refused y ↦ λ e. cc ]
+named : ℕ → Option Refusal
+named n =
+    cond (eqb n 1) (Some refusal.Table) (
+    cond (eqb n 2) (Some refusal.Sizes) (
+    cond (eqb n 3) (Some refusal.Level) (
+    cond (eqb n 4) (Some refusal.Queue) (
+    cond (eqb n 5) (Some refusal.Node) (
+    cond (eqb n 6) (Some refusal.Busy) (
+    cond (eqb n 7) (Some refusal.InUse) (
+    cond (eqb n 8) (Some refusal.Dequeued) (
+    cond (eqb n 9) (Some refusal.Idle) (
+    cond (eqb n 10) (Some refusal.Damaged) (
+    cond (eqb n 11) (Some refusal.Unquiet) (
+    cond (eqb n 12) (Some refusal.Room) (
+    cond (eqb n 14) (Some refusal.Many) None))))))))))))
 
-pub one_run : (a b : Ran) → run_says a ≡ run_says b → a ≡ b
-one_run (ran.Ended x x') =
-    elim [
-      | ran.Ended y y' ↦ λ e. cc
-      | ran.Spent y ↦ λ e. cc
-      | ran.Idle y ↦ λ e. cc
-      | ran.Damaged y ↦ λ e. cc
-      | ran.Refused y ↦ λ e. cc
-    ]
-one_run (ran.Spent x) =
-    elim [
-      | ran.Ended y y' ↦ λ e. cc
-      | ran.Spent y ↦ λ e. cc
-      | ran.Idle y ↦ λ e. cc
-      | ran.Damaged y ↦ λ e. cc
-      | ran.Refused y ↦ λ e. cc
-    ]
-one_run (ran.Idle x) =
-    elim [
-      | ran.Ended y y' ↦ λ e. cc
-      | ran.Spent y ↦ λ e. cc
-      | ran.Idle y ↦ λ e. cc
-      | ran.Damaged y ↦ λ e. cc
-      | ran.Refused y ↦ λ e. cc
-    ]
-one_run (ran.Damaged x) =
-    elim [
-      | ran.Ended y y' ↦ λ e. cc
-      | ran.Spent y ↦ λ e. cc
-      | ran.Idle y ↦ λ e. cc
-      | ran.Damaged y ↦ λ e. cc
-      | ran.Refused y ↦ λ e. cc
-    ]
-one_run (ran.Refused x) =
-    elim [
-      | ran.Ended y y' ↦ λ e. cc
-      | ran.Spent y ↦ λ e. cc
-      | ran.Idle y ↦ λ e. cc
-      | ran.Damaged y ↦ λ e. cc
-      | ran.Refused y ↦ λ e. cc
-    ]
+named_number : (r : Refusal) → named (number r) ≡ Some r
+unfolding named
+named_number refusal.Table = refl
+named_number refusal.Sizes = refl
+named_number refusal.Level = refl
+named_number refusal.Queue = refl
+named_number refusal.Node = refl
+named_number refusal.Busy = refl
+named_number refusal.InUse = refl
+named_number refusal.Dequeued = refl
+named_number refusal.Idle = refl
+named_number refusal.Damaged = refl
+named_number refusal.Unquiet = refl
+named_number refusal.Room = refl
+named_number refusal.Many = refl
 
-pub one_quiet : (a b : Quiet) → quiet_says a ≡ quiet_says b → a ≡ b
-one_quiet quiet.Yes = elim [ quiet.Yes ↦ λ e. cc | quiet.No ↦ λ e. cc | quiet.Refused y ↦ λ e. cc ]
-one_quiet quiet.No = elim [ quiet.Yes ↦ λ e. cc | quiet.No ↦ λ e. cc | quiet.Refused y ↦ λ e. cc ]
-one_quiet (quiet.Refused x) = elim [ quiet.Yes ↦ λ e. cc | quiet.No ↦ λ e. cc | quiet.Refused y ↦ λ e. cc ]
+pub one_refusal : (a b : Refusal) → number a ≡ number b → a ≡ b
+one_refusal a b e =
+    let same : Some a ≡ Some b = sym (named_number a) ∙ ap named e ∙ named_number b in
+    cc
 
-pub one_count : (a b : Counted) → count_says a ≡ count_says b → a ≡ b
-one_count (counted.Are x) = elim [ counted.Are y ↦ λ e. cc | counted.Refused y ↦ λ e. cc ]
-one_count (counted.Refused x) = elim [ counted.Are y ↦ λ e. cc | counted.Refused y ↦ λ e. cc ]
+-- ---- the answers
 
-pub one_waiting : (a b : Waiting) → waiting_says a ≡ waiting_says b → a ≡ b
-one_waiting (waiting.Are x) = elim [ waiting.Are y ↦ λ e. cc | waiting.Refused y ↦ λ e. cc ]
-one_waiting (waiting.Refused x) = elim [ waiting.Are y ↦ λ e. cc | waiting.Refused y ↦ λ e. cc ]
+pub one_answer : {A : Type 0} (a b : Result A Refusal) → answer_says a ≡ answer_says b → a ≡ b
+one_answer (Ok x) (Ok y) e = cc
+one_answer (Ok x) (Err r) e = cc
+one_answer (Err r) (Ok y) e = cc
+one_answer (Err r) (Err q) e = let n : number r ≡ number q = cc in ap (λ z. Err z) (one_refusal r q n)
 
--- of `quiet` and `waiting`
-pub one_quiet_answer : {x : Said Bool} {a b : Quiet} → x ≡ quiet_says a → x ≡ quiet_says b → a ≡ b
-one_quiet_answer p q = once_read quiet_says one_quiet p q
+pub one_step : (a b : Result (Option End) Refusal) → step_says a ≡ step_says b → a ≡ b
+one_step (Ok None) (Ok None) e = refl
+one_step (Ok None) (Ok (Some y)) e = cc
+one_step (Ok (Some x)) (Ok None) e = cc
+one_step (Ok (Some x)) (Ok (Some y)) e = cc
+one_step (Ok None) (Err r) e = cc
+one_step (Ok (Some x)) (Err r) e = cc
+one_step (Err r) (Ok None) e = cc
+one_step (Err r) (Ok (Some y)) e = cc
+one_step (Err r) (Err q) e = let n : number r ≡ number q = cc in ap (λ z. Err z) (one_refusal r q n)
 
-pub one_waiting_answer : {x : Said ℕ} {a b : Waiting} → x ≡ waiting_says a → x ≡ waiting_says b → a ≡ b
-one_waiting_answer p q = once_read waiting_says one_waiting p q
+pub one_run : (a b : Result Ran Refusal) → run_says a ≡ run_says b → a ≡ b
+one_run (Ok x) (Ok y) e =
+    let steps : x.steps ≡ y.steps = cc in
+    let whys : why_says x.why ≡ why_says y.why = cc in
+    ap (λ s. Ok (record { steps = s; why = x.why })) steps
+    ∙ ap (λ w. Ok (record { steps = y.steps; why = w })) (by x.why y.why whys)
+  where
+    by : (a b : Why) → why_says a ≡ why_says b → a ≡ b
+    by (why.Ended a) = elim [ why.Ended b ↦ λ e. cc | why.Spent ↦ λ e. cc | why.Idle ↦ λ e. cc | why.Damaged ↦ λ e. cc ]
+    by why.Spent = elim [ why.Ended b ↦ λ e. cc | why.Spent ↦ λ e. cc | why.Idle ↦ λ e. cc | why.Damaged ↦ λ e. cc ]
+    by why.Idle = elim [ why.Ended b ↦ λ e. cc | why.Spent ↦ λ e. cc | why.Idle ↦ λ e. cc | why.Damaged ↦ λ e. cc ]
+    by why.Damaged = elim [ why.Ended b ↦ λ e. cc | why.Spent ↦ λ e. cc | why.Idle ↦ λ e. cc | why.Damaged ↦ λ e. cc ]
+one_run (Ok x) (Err r) e = cc
+one_run (Err r) (Ok y) e = cc
+one_run (Err r) (Err q) e = let n : number r ≡ number q = cc in ap (λ z. Err z) (one_refusal r q n)

@@ -1,18 +1,25 @@
 -- What the calls answer in document 01's words and numbers, and which of these each answer of the code is.
-use Rattle.std.specs.Prelude.{ℕ, Bool, true, false}
+use Rattle.std.specs.Prelude.{ℕ, Option, Some, None, Result, Ok, Err}
 use Rattle.answers.specs.declared.End.{End}
-use Rattle.answers.specs.declared.Done.{Done}
-use Rattle.answers.specs.declared.Done.TheVariants as done
-use Rattle.answers.specs.declared.Stepped.{Stepped}
-use Rattle.answers.specs.declared.Stepped.TheVariants as stepped
 use Rattle.answers.specs.declared.Ran.{Ran}
-use Rattle.answers.specs.declared.Ran.TheVariants as ran
-use Rattle.answers.specs.declared.Quiet.{Quiet}
-use Rattle.answers.specs.declared.Quiet.TheVariants as quiet
-use Rattle.answers.specs.declared.Counted.{Counted}
-use Rattle.answers.specs.declared.Counted.TheVariants as counted
-use Rattle.answers.specs.declared.Waiting.{Waiting}
-use Rattle.answers.specs.declared.Waiting.TheVariants as waiting
+use Rattle.answers.specs.declared.Why as codes
+use Rattle.answers.specs.declared.Why.TheVariants as code
+use Rattle.answers.specs.declared.Refusal.{Refusal}
+use Rattle.answers.specs.declared.Refusal.TheVariants.{
+  Table,
+  Sizes,
+  Level,
+  Queue,
+  Node,
+  Busy,
+  InUse,
+  Dequeued,
+  Idle,
+  Damaged,
+  Unquiet,
+  Room,
+  Many,
+}
 
 -- a refusal's number, or what is answered
 pub data Said (A : Type 0) : Type 0 where
@@ -35,32 +42,46 @@ pub data Why : Type 0 where
 pub data Run : Type 0 where
   after : ℕ → Why → Run
 
-abbrev pub done_says : Done → Said Unit
-done_says done.Yes = says tt
-done_says (done.Refused r) = refused r
+-- the refusals' numbers
+abbrev pub number : Refusal → ℕ
+number Table = 1
+number Sizes = 2
+number Level = 3
+number Queue = 4
+number Node = 5
+number Busy = 6
+number InUse = 7
+number Dequeued = 8
+number Idle = 9
+number Damaged = 10
+number Unquiet = 11
+number Room = 12
+number Many = 14
 
-abbrev pub step_says : Stepped → Said Step
-step_says stepped.GoingOn = says going_on
-step_says (stepped.Ended e) = says (ended e)
-step_says (stepped.Refused r) = refused r
+-- of a call that answers what its definition says: a begin, a question or a count
+abbrev pub answer_says : {A : Type 0} → Result A Refusal → Said A
+answer_says (Ok x) = says x
+answer_says (Err r) = refused (number r)
 
-abbrev pub run_says : Ran → Said Run
-run_says (ran.Ended n e) = says (after n (an_end e))
-run_says (ran.Spent n) = says (after n spent)
-run_says (ran.Idle n) = says (after n nothing_runs)
-run_says (ran.Damaged n) = says (after n refusal_10)
-run_says (ran.Refused r) = refused r
+-- the number of the refusal, and 0 where there is none
+abbrev pub refusal_number : Result Unit Refusal → ℕ
+refusal_number (Ok x) = 0
+refusal_number (Err r) = number r
 
--- true for yes
-abbrev pub quiet_says : Quiet → Said Bool
-quiet_says quiet.Yes = says true
-quiet_says quiet.No = says false
-quiet_says (quiet.Refused r) = refused r
+abbrev pub step_says : Result (Option End) Refusal → Said Step
+step_says (Ok None) = says going_on
+step_says (Ok (Some e)) = says (ended e)
+step_says (Err r) = refused (number r)
 
-abbrev pub count_says : Counted → Said ℕ
-count_says (counted.Are n) = says n
-count_says (counted.Refused r) = refused r
+abbrev pub why_says : codes.Why → Why
+why_says (code.Ended e) = an_end e
+why_says code.Spent = spent
+why_says code.Idle = nothing_runs
+why_says code.Damaged = refusal_10
 
-abbrev pub waiting_says : Waiting → Said ℕ
-waiting_says (waiting.Are n) = says n
-waiting_says (waiting.Refused r) = refused r
+abbrev pub ran_says : Ran → Run
+ran_says r = after r.steps (why_says r.why)
+
+abbrev pub run_says : Result Ran Refusal → Said Run
+run_says (Ok r) = says (ran_says r)
+run_says (Err r) = refused (number r)

@@ -1,13 +1,49 @@
 // What the calls answer.
 #![tactic(auto)]
 
+ghost use Rattle.std.specs.Prelude.{◌≡◌};
+ghost use Rattle.answers.specs.Said.{number};
+
 use words::{Level, Node, Queue};
 
-// Whether a call that only changes the table was accepted; a refusal has its number.
-#[derive(Clone, Copy)]
-pub enum Done {
-    Yes,
-    Refused(u16),
+// Why a call is refused: document 01's refusals 1 to 12 and 14 in their order. Refusal 13, of a text, has a line and no number.
+#[derive(Clone, Copy, PartialEq, Eq)]
+pub enum Refusal {
+    Table,
+    Sizes,
+    Level,
+    Queue,
+    Node,
+    Busy,
+    InUse,
+    Dequeued,
+    Idle,
+    Damaged,
+    Unquiet,
+    Room,
+    Many,
+}
+
+impl From<Refusal> for u16 {
+    ghost from_gives = { λ r n. n ≡ number r };
+
+    fn from(r: Refusal) -> u16 {
+        match r {
+            Refusal::Table => 1,
+            Refusal::Sizes => 2,
+            Refusal::Level => 3,
+            Refusal::Queue => 4,
+            Refusal::Node => 5,
+            Refusal::Busy => 6,
+            Refusal::InUse => 7,
+            Refusal::Dequeued => 8,
+            Refusal::Idle => 9,
+            Refusal::Damaged => 10,
+            Refusal::Unquiet => 11,
+            Refusal::Room => 12,
+            Refusal::Many => 14,
+        }
+    }
 }
 
 // An operation that ended: op 1 or 2, its node, 0 for empty, and its steps.
@@ -20,39 +56,18 @@ pub struct End {
     pub steps: u16,
 }
 
+// Why a run stopped: an operation ended, the budget is spent, nothing runs, or refusal 10 came.
 #[derive(Clone, Copy)]
-pub enum Stepped {
-    GoingOn,
+pub enum Why {
     Ended(End),
-    Refused(u16),
+    Spent,
+    Idle,
+    Damaged,
 }
 
-// Why a run stopped, after so many steps. A run that is Refused took none; one that is Damaged met refusal 10.
+// A run's steps taken, and why it stopped.
 #[derive(Clone, Copy)]
-pub enum Ran {
-    Ended(u16, End),
-    Spent(u16),
-    Idle(u16),
-    Damaged(u16),
-    Refused(u16),
-}
-
-#[derive(Clone, Copy)]
-pub enum Quiet {
-    Yes,
-    No,
-    Refused(u16),
-}
-
-#[derive(Clone, Copy)]
-pub enum Counted {
-    Are(u16),
-    Refused(u16),
-}
-
-// How many nodes wait. That they are never more than the table's nodes, damaged or not, is not shown; 32 bits hold any count.
-#[derive(Clone, Copy)]
-pub enum Waiting {
-    Are(u32),
-    Refused(u16),
+pub struct Ran {
+    pub steps: u16,
+    pub why: Why,
 }

@@ -1,10 +1,9 @@
 -- What the loops of the calls keep: how many nodes a chain has yet to give, and where they go.
 use Prim.Native.Nat.{ℕ, zero, suc, ◌+◌, ◌-◌, ◌≤◌, ◌<◌}
-use Rattle.std.specs.Prelude.{◌≡◌, ◌≢◌, List, [], ◌∷◌, Bool, cond, length, set, ltb, eqb}
+use Rattle.std.specs.Prelude.{◌≡◌, ◌≢◌, List, [], ◌∷◌, Bool, cond, length, set, ltb, eqb, Option, None, Some}
 use Rattle.std.proofs.Math.Path.{refl, ap}
 use Rattle.std.proofs.Common.{sym, ◌∙◌, add-zero, zero-add, add-one, length-set}
 use Rattle.std.proofs.Math.Bool.{true, false}
-use Rattle.std.proofs.Math.Option.{Option, none, some}
 use native.Mathlib.Omega.{arith}
 use Rattle.std.proofs.lemmas.List.Edits.{sets, sets-eq}
 use borrow.Author.Tests.{ltb-false, ltb-true, eqb-true, eqb-false, eq-eqb, ne_eqb, lt-ltb, le-ltb}
@@ -12,8 +11,6 @@ use Rattle.words.specs.declared.Sizes.{Sizes}
 use Rattle.words.specs.declared.Word.TheVariants.{Next}
 use Rattle.words.specs.Layout.{node, has, rd}
 use Rattle.words.specs.Laws.{Bound, has_is}
-use Rattle.asks.specs.declared.Chain.{Chain}
-use Rattle.asks.specs.declared.Chain.TheVariants.{Ends, Broken}
 use Rattle.answers.specs.Said.{refused, says}
 use Rattle.asks.specs.Listing.{before, chain, nodes_from, listed}
 use Rattle.asks.specs.Inner.{weight, counted, RoomFor, written, put}
@@ -21,17 +18,17 @@ use Rattle.asks.specs.Inner.{weight, counted, RoomFor, written, put}
 -- ---- the chain
 
 module _ (s : Sizes) (t : List ℕ) (q : ℕ) where
-  pub chain_ended : (n c : ℕ) → c ≡ 0 → chain s t q n c ≡ some []
+  pub chain_ended : (n c : ℕ) → c ≡ 0 → chain s t q n c ≡ Some []
   unfolding chain
   chain_ended zero c e = simp (eq-eqb c 0 e)
   chain_ended (suc n) c e = simp (eq-eqb c 0 e)
 
-  pub chain_long : (n c : ℕ) → c ≢ 0 → n ≡ 0 → chain s t q n c ≡ none
+  pub chain_long : (n c : ℕ) → c ≢ 0 → n ≡ 0 → chain s t q n c ≡ None
   unfolding chain
   chain_long zero c e z = simp (ne_eqb c 0 e)
   chain_long (suc n) c e z = absurd (omega arith)
 
-  pub chain_above : (n c : ℕ) → c ≢ 0 → s.nodes < c → chain s t q n c ≡ none
+  pub chain_above : (n c : ℕ) → c ≢ 0 → s.nodes < c → chain s t q n c ≡ None
   unfolding chain
   chain_above zero c e h = simp (ne_eqb c 0 e)
   chain_above (suc n) c e h = simp (ne_eqb c 0 e, lt-ltb s.nodes c h)
@@ -47,27 +44,27 @@ module _ (s : Sizes) (t : List ℕ) (q : ℕ) where
 
 counted_before : (q c k : ℕ) (o : Option (List ℕ)) → counted k (before q c o) ≡ counted (k + weight q c) o
 unfolding before weight counted
-counted_before q c k none = refl
-counted_before q c k (some ns) = by (eqb c q)
+counted_before q c k None = refl
+counted_before q c k (Some ns) = by (eqb c q)
   where
-    by : (b : Bool) → Ends (k + length (cond b ns (c ∷ ns))) ≡ Ends (k + cond b 0 1 + length ns)
-    by true = ap Ends (omega arith)
-    by false = ap Ends (omega arith)
+    by : (b : Bool) → Some (k + length (cond b ns (c ∷ ns))) ≡ Some (k + cond b 0 1 + length ns)
+    by true = ap Some (omega arith)
+    by false = ap Some (omega arith)
 
 -- the walk has counted k nodes and stands at c, with n more to go at most; the count is to be all
-pub record Counting (s : Sizes) (t : List ℕ) (q n c k : ℕ) (all : Chain) : Type 0 where
+pub record Counting (s : Sizes) (t : List ℕ) (q n c k : ℕ) (all : Option ℕ) : Type 0 where
   pub is : counted k (chain s t q n c) ≡ all
 
-module _ {s : Sizes} {t : List ℕ} {q n c k : ℕ} {all : Chain} (w : Counting s t q n c k all) where
-  pub counting_ended : c ≡ 0 → Ends k ≡ all
+module _ {s : Sizes} {t : List ℕ} {q n c k : ℕ} {all : Option ℕ} (w : Counting s t q n c k all) where
+  pub counting_ended : c ≡ 0 → Some k ≡ all
   unfolding counted
-  counting_ended e = ap Ends (sym (add-zero k)) ∙ rw (chain_ended s t q n c e) at w.is
+  counting_ended e = ap Some (sym (add-zero k)) ∙ rw (chain_ended s t q n c e) at w.is
 
-  pub counting_long : c ≢ 0 → n ≡ 0 → Broken ≡ all
+  pub counting_long : c ≢ 0 → n ≡ 0 → None ≡ all
   unfolding counted
   counting_long e z = rw (chain_long s t q n c e z) at w.is
 
-  pub counting_above : c ≢ 0 → s.nodes < c → Broken ≡ all
+  pub counting_above : c ≢ 0 → s.nodes < c → None ≡ all
   unfolding counted
   counting_above e h = rw (chain_above s t q n c e h) at w.is
 
@@ -81,8 +78,8 @@ put_before : (q c i : ℕ) (o : Option (List ℕ)) (room : List ℕ) → RoomFor
     × RoomFor o (i + weight q c) (put q c i room)
     × (written o (i + weight q c) (put q c i room) ≡ written (before q c o) i room)
 unfolding before weight put RoomFor written
-put_before q c i none room h = absurd h
-put_before q c i (some ns) room h = by (eqb c q) h
+put_before q c i None room h = absurd h
+put_before q c i (Some ns) room h = by (eqb c q) h
   where
     by : (b : Bool) → i + length (cond b ns (c ∷ ns)) ≤ length room
         → (i + cond b 0 1 ≤ length room)
@@ -134,7 +131,7 @@ module _ {s : Sizes} {t : List ℕ} {q n c i : ℕ} {room all : List ℕ} (w : W
 
 -- ---- the listing, by its head and its count
 
-pub no_head : {head h : ℕ} → head ≡ h → head ≡ 0 → (s : Sizes) (t : List ℕ) (q : ℕ) → nodes_from s t q h ≡ none
+pub no_head : {head h : ℕ} → head ≡ h → head ≡ 0 → (s : Sizes) (t : List ℕ) (q : ℕ) → nodes_from s t q h ≡ None
 unfolding nodes_from
 no_head {head} e z s t q = rw (← e) (simp (eq-eqb head 0 z))
 
@@ -143,23 +140,23 @@ pub from_head : {head h : ℕ} → head ≡ h → head ≢ 0 → (s : Sizes) (t 
 unfolding nodes_from
 from_head {head} e z s t q = rw (← e) (simp (ne_eqb head 0 z))
 
-pub listed_broken : (o : Option (List ℕ)) (room : List ℕ) → counted 0 o ≡ Broken → listed o room ≡ (refused 10, room)
+pub listed_broken : (o : Option (List ℕ)) (room : List ℕ) → counted 0 o ≡ None → listed o room ≡ (refused 10, room)
 unfolding listed counted
-listed_broken none room e = refl
-listed_broken (some ns) room e = let z : ◌≡◌ {A = ℕ} 0 1 = cc in absurd (omega arith)
+listed_broken None room e = refl
+listed_broken (Some ns) room e = let z : ◌≡◌ {A = ℕ} 0 1 = cc in absurd (omega arith)
 
-pub listed_short : (o : Option (List ℕ)) (n : ℕ) (room : List ℕ) → counted 0 o ≡ Ends n → length room < n
+pub listed_short : (o : Option (List ℕ)) (n : ℕ) (room : List ℕ) → counted 0 o ≡ Some n → length room < n
     → listed o room ≡ (refused 12, room)
 unfolding listed counted
-listed_short none n room e h = let z : ◌≡◌ {A = ℕ} 0 1 = cc in absurd (omega arith)
-listed_short (some ns) n room e h =
+listed_short None n room e h = let z : ◌≡◌ {A = ℕ} 0 1 = cc in absurd (omega arith)
+listed_short (Some ns) n room e h =
     let z : 0 + length ns ≡ n = cc in simp (lt-ltb (length room) (length ns) (omega arith))
 
-pub listed_written : (o : Option (List ℕ)) (n : ℕ) (room : List ℕ) → counted 0 o ≡ Ends n → n ≤ length room
+pub listed_written : (o : Option (List ℕ)) (n : ℕ) (room : List ℕ) → counted 0 o ≡ Some n → n ≤ length room
     → RoomFor o 0 room × (listed o room ≡ (says n, written o 0 room))
 unfolding listed counted RoomFor written
-listed_written none n room e h = let z : ◌≡◌ {A = ℕ} 0 1 = cc in absurd (omega arith)
-listed_written (some ns) n room e h =
+listed_written None n room e h = let z : ◌≡◌ {A = ℕ} 0 1 = cc in absurd (omega arith)
+listed_written (Some ns) n room e h =
     let z : 0 + length ns ≡ n = cc in
     let k : 0 + length ns ≤ length room = omega arith in
     (k, simp (le-ltb (length room) n h, sets-eq ns room 0 k, zero-add, rw zero-add at z))

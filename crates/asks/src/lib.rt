@@ -5,36 +5,24 @@ ghost use Rattle.std.specs.Prelude.{◌≡◌, true, ◌+◌, ◌≤◌, length,
 ghost use Rattle.words.specs.declared.Word.TheVariants.{Head};
 ghost use Rattle.words.specs.Layout.{has};
 ghost use Rattle.words.specs.Inner.{Fits};
-ghost use Rattle.answers.specs.Said.{quiet_says, count_says};
+ghost use Rattle.answers.specs.Said.{answer_says};
 ghost use Rattle.asks.specs.Quiet.{quiet_of};
 ghost use Rattle.asks.specs.Listing.{chain, nodes_of, listed, listing_sized, listing_of};
 ghost use Rattle.asks.specs.Inner.{weight, counted, RoomFor, written, put};
 
-use answers::Counted;
-use words::{Measured, Node, Queue, Sizes, Word};
+use answers::Refusal;
+use words::{Node, Queue, Sizes, Word};
 
-pub fn quiet(t: &[u16], q: Queue) -> answers::Quiet
-    ensures { quiet_of t.now q ≡ quiet_says result }
+#[tactic(auto, using(words::specs::Laws::measured_fits), unfolding(crate::specs::Quiet::quiet_of, crate::specs::Quiet::quiet_measured))]
+pub fn quiet(t: &[u16], q: Queue) -> Result<bool, Refusal>
+    ensures { quiet_of t.now q ≡ answer_says result }
 {
-    match words::measure(t) {
-        Measured::Unfit => answers::Quiet::Refused(1),
-        Measured::Sized(s) => {
-            if conditions::no_queue(s, q) {
-                answers::Quiet::Refused(4)
-            } else if conditions::is_unquiet(t, s, q) {
-                answers::Quiet::No
-            } else {
-                answers::Quiet::Yes
-            }
-        }
+    let s = words::measure(t).ok_or(Refusal::Table)?;
+    if conditions::no_queue(s, q) {
+        Err(Refusal::Queue)
+    } else {
+        Ok(!conditions::is_unquiet(t, s, q))
     }
-}
-
-// A chain that ends, with its number of nodes but the sentinel, or one of refusal 10.
-#[derive(Clone, Copy)]
-pub enum Chain {
-    Ends(u16),
-    Broken,
 }
 
 fn is_sentinel(q: Queue, c: Node) -> bool
@@ -43,14 +31,17 @@ fn is_sentinel(q: Queue, c: Node) -> bool
     c.0 == q.0
 }
 
+#[tactic(auto, unfolding(crate::specs::Inner::weight))]
 fn weight_of(q: Queue, c: Node) -> u16
     ensures value { result ≡ weight q.0 c.0 }
     ensures upper_bound { result ≤ 1 }
 {
-    if is_sentinel(q, c) { 0 } else { 1 }
+    u16::from(!is_sentinel(q, c))
 }
 
-fn count_chain(t: &[u16], s: Sizes, q: Queue, head: Node) -> Chain
+// How many nodes the chain has but the sentinel, or none where it is one of refusal 10. It walks from link to link, and left counts the
+// links that the table can have: kept a while, since a for over these would ask in two places whether the chain ends.
+fn count_chain(t: &[u16], s: Sizes, q: Queue, head: Node) -> Option<u16>
     requires { Fits s t.now }
     ensures { result ≡ counted 0 (chain s t.now q.0 s.nodes head.0) }
 {
@@ -58,20 +49,18 @@ fn count_chain(t: &[u16], s: Sizes, q: Queue, head: Node) -> Chain
     let mut left = s.nodes;
     let mut n = 0;
     while c.0 != 0 {
-        if left == 0 {
-            return Chain::Broken;
-        }
-        if s.nodes < words::wide(c.0) {
-            return Chain::Broken;
+        if left == 0 || s.nodes < usize::from(c.0) {
+            return None;
         }
         n += weight_of(q, c);
         c = Node(words::load(t, s, Word::Next(c)));
         left -= 1;
     }
-    Chain::Ends(n)
+    Some(n)
 }
 
 // Puts node c at place i, unless it is the sentinel, and answers the next place.
+#[tactic(auto, unfolding(crate::specs::Inner::weight, crate::specs::Inner::put))]
 fn put_node(room: &mut [u16], i: usize, q: Queue, c: Node) -> usize
     requires { i + weight q.0 c.0 ≤ length room.old }
     ensures { (result ≡ i + weight q.0 c.0) × (room.new ≡ put q.0 c.0 i room.old) }
@@ -100,47 +89,44 @@ fn write_chain(t: &[u16], s: Sizes, q: Queue, head: Node, room: &mut [u16])
     }
 }
 
-fn list_nodes(t: &[u16], s: Sizes, q: Queue, room: &mut [u16]) -> Counted
+fn list_nodes(t: &[u16], s: Sizes, q: Queue, room: &mut [u16]) -> Result<u16, Refusal>
     requires fits { Fits s t.now }
     requires q_value { has s (Head q) ≡ true }
-    ensures { listed (nodes_of s t.now q) room.old ≡ (count_says result, room.new) }
+    ensures { listed (nodes_of s t.now q) room.old ≡ (answer_says result, room.new) }
 {
     let head = Node(words::load(t, s, Word::Head(q)));
     if head.0 == 0 {
-        return Counted::Refused(10);
+        return Err(Refusal::Damaged);
     }
-    match count_chain(t, s, q, head) {
-        Chain::Broken => Counted::Refused(10),
-        Chain::Ends(n) => {
-            if room.len() < words::wide(n) {
-                Counted::Refused(12)
-            } else {
-                write_chain(t, s, q, head, room);
-                Counted::Are(n)
-            }
-        }
+    let Some(n) = count_chain(t, s, q, head) else {
+        return Err(Refusal::Damaged);
+    };
+    if room.len() < usize::from(n) {
+        return Err(Refusal::Room);
     }
+    write_chain(t, s, q, head, room);
+    Ok(n)
 }
 
-fn list_sized(t: &[u16], s: Sizes, q: Queue, room: &mut [u16]) -> Counted
+#[tactic(auto, using(conditions::specs::Laws::has_queue), unfolding(crate::specs::Listing::listing_sized))]
+fn list_sized(t: &[u16], s: Sizes, q: Queue, room: &mut [u16]) -> Result<u16, Refusal>
     requires { Fits s t.now }
-    ensures { listing_sized s t.now q room.old ≡ (count_says result, room.new) }
+    ensures { listing_sized s t.now q room.old ≡ (answer_says result, room.new) }
 {
     if conditions::no_queue(s, q) {
-        Counted::Refused(4)
-    } else if conditions::is_unquiet(t, s, q) {
-        Counted::Refused(11)
-    } else {
-        list_nodes(t, s, q, room)
+        return Err(Refusal::Queue);
     }
+    if conditions::is_unquiet(t, s, q) {
+        return Err(Refusal::Unquiet);
+    }
+    list_nodes(t, s, q, room)
 }
 
 // Writes the queue's nodes from head on into the room, and answers how many.
-pub fn listing(t: &[u16], q: Queue, room: &mut [u16]) -> Counted
-    ensures { listing_of t.now q room.old ≡ (count_says result, room.new) }
+#[tactic(auto, using(words::specs::Laws::measured_fits), unfolding(crate::specs::Listing::listing_of, crate::specs::Listing::listing_measured))]
+pub fn listing(t: &[u16], q: Queue, room: &mut [u16]) -> Result<u16, Refusal>
+    ensures { listing_of t.now q room.old ≡ (answer_says result, room.new) }
 {
-    match words::measure(t) {
-        Measured::Unfit => Counted::Refused(1),
-        Measured::Sized(s) => list_sized(t, s, q, room),
-    }
+    let s = words::measure(t).ok_or(Refusal::Table)?;
+    list_sized(t, s, q, room)
 }

@@ -1,12 +1,10 @@
 -- Beginning an enqueue or a dequeue: what is answered, and the table afterwards.
-use Rattle.std.specs.Prelude.{ℕ, List, [], ◌∷◌, cond, eqb}
+use Rattle.std.specs.Prelude.{ℕ, List, [], ◌∷◌, cond, eqb, Option, Some, None}
 use Rattle.words.specs.declared.Level.{Level}
 use Rattle.words.specs.declared.Queue.{Queue}
 use Rattle.words.specs.declared.Node.{Node}
 use Rattle.words.specs.declared.Sizes.{Sizes}
 use Rattle.words.specs.declared.Frame.{Frame}
-use Rattle.words.specs.declared.Measured.{Measured}
-use Rattle.words.specs.declared.Measured.TheVariants.{Sized, Unfit}
 use Rattle.words.specs.declared.Word.TheVariants.{Use}
 use Rattle.words.specs.Layout.{level, node, measured, wr, put_frame}
 use Rattle.answers.specs.Said.{Said, refused, says}
@@ -33,9 +31,9 @@ enqueue_why s t l q n =
 unfoldable pub enqueue_sized : Sizes → List ℕ → Level → Queue → Node → Said Unit × List ℕ
 enqueue_sized s t l q n = unless (enqueue_why s t l q n) t (wr s (put_frame s t l (begun 1 E1 q n)) (Use n) q.0)
 
-unfoldable pub enqueue_measured : List ℕ → Level → Queue → Node → Measured → Said Unit × List ℕ
-enqueue_measured t l q n Unfit = (refused 1, t)
-enqueue_measured t l q n (Sized s) = enqueue_sized s t l q n
+unfoldable pub enqueue_measured : List ℕ → Level → Queue → Node → Option Sizes → Said Unit × List ℕ
+enqueue_measured t l q n None = (refused 1, t)
+enqueue_measured t l q n (Some s) = enqueue_sized s t l q n
 
 -- refusals 1, 3, 4, 5, 6, 7
 unfoldable pub enqueue_of : List ℕ → Level → Queue → Node → Said Unit × List ℕ
@@ -48,9 +46,9 @@ dequeue_why s t l q = first_of ((3, no_level s l) ∷ (4, no_queue s q) ∷ (6, 
 unfoldable pub dequeue_sized : Sizes → List ℕ → Level → Queue → Said Unit × List ℕ
 dequeue_sized s t l q = unless (dequeue_why s t l q) t (put_frame s t l (begun 2 D1 q (node 0)))
 
-unfoldable pub dequeue_measured : List ℕ → Level → Queue → Measured → Said Unit × List ℕ
-dequeue_measured t l q Unfit = (refused 1, t)
-dequeue_measured t l q (Sized s) = dequeue_sized s t l q
+unfoldable pub dequeue_measured : List ℕ → Level → Queue → Option Sizes → Said Unit × List ℕ
+dequeue_measured t l q None = (refused 1, t)
+dequeue_measured t l q (Some s) = dequeue_sized s t l q
 
 -- refusals 1, 3, 4, 6, 8
 unfoldable pub dequeue_of : List ℕ → Level → Queue → Said Unit × List ℕ

@@ -1,5 +1,5 @@
 -- What a begin keeps, and what keeps its refusal.
-use Rattle.std.specs.Prelude.{ℕ, ◌≡◌, refl, true, false, cond, eqb}
+use Rattle.std.specs.Prelude.{ℕ, ◌≡◌, refl, true, false, cond, eqb, Some}
 use mathlib.Core.List.{List, [], ◌∷◌}
 use Rattle.std.proofs.Math.Bool.{Bool}
 use Rattle.std.proofs.Common.{eqb-true}
@@ -7,7 +7,6 @@ use Rattle.words.specs.declared.Level.{Level}
 use Rattle.words.specs.declared.Queue.{Queue}
 use Rattle.words.specs.declared.Node.{Node}
 use Rattle.words.specs.declared.Sizes.{Sizes}
-use Rattle.words.specs.declared.Measured.TheVariants.{Sized}
 use Rattle.words.specs.declared.Word.TheVariants.{Use}
 use Rattle.words.specs.Layout.{measured, has, rd, frame_of}
 use Rattle.words.specs.Laws.{measured_wr, measured_put}
@@ -20,23 +19,23 @@ use Rattle.begins.specs.Laws.{enqueues}
 
 -- ---- a begin keeps the table's sizes
 
-unless_kept : (s : Sizes) (why : ℕ) (t new : List ℕ) → measured t ≡ Sized s → (why ≡ 0 → measured new ≡ Sized s)
-    → measured (unless why t new).1 ≡ Sized s
+unless_kept : (s : Sizes) (why : ℕ) (t new : List ℕ) → measured t ≡ Some s → (why ≡ 0 → measured new ≡ Some s)
+    → measured (unless why t new).1 ≡ Some s
 unfolding unless
 unless_kept s why t new m h = by (eqb why 0) refl
   where
-    by : (b : Bool) → eqb why 0 ≡ b → measured (cond {A = Said Unit × List ℕ} b (says tt, new) (refused why, t)).1 ≡ Sized s
+    by : (b : Bool) → eqb why 0 ≡ b → measured (cond {A = Said Unit × List ℕ} b (says tt, new) (refused why, t)).1 ≡ Some s
     by true e = h (eqb-true why 0 e)
     by false e = m
 
-pub enqueue_kept : (s : Sizes) (t : List ℕ) (l : Level) (q : Queue) (n : Node) → measured t ≡ Sized s
-    → measured (enqueue_sized s t l q n).1 ≡ Sized s
+pub enqueue_kept : (s : Sizes) (t : List ℕ) (l : Level) (q : Queue) (n : Node) → measured t ≡ Some s
+    → measured (enqueue_sized s t l q n).1 ≡ Some s
 unfolding enqueue_sized
 enqueue_kept s t l q n m =
     unless_kept s (enqueue_why s t l q n) t _ m
     (λ e. measured_wr s _ (Use n) q.0 (measured_put s t l _ m) (enqueues s t l q n e).has_n)
 
-pub dequeue_kept : (s : Sizes) (t : List ℕ) (l : Level) (q : Queue) → measured t ≡ Sized s → measured (dequeue_sized s t l q).1 ≡ Sized s
+pub dequeue_kept : (s : Sizes) (t : List ℕ) (l : Level) (q : Queue) → measured t ≡ Some s → measured (dequeue_sized s t l q).1 ≡ Some s
 unfolding dequeue_sized
 dequeue_kept s t l q m = unless_kept s (dequeue_why s t l q) t _ m (λ e. measured_put s t l _ m)
 

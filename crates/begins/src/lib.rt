@@ -3,49 +3,52 @@
 
 ghost use Rattle.std.specs.Prelude.{◌≡◌};
 ghost use Rattle.words.specs.Inner.{Fits};
-ghost use Rattle.answers.specs.Said.{says, done_says};
+ghost use Rattle.answers.specs.Said.{says, answer_says, refusal_number};
 ghost use Rattle.begins.specs.Begin.{begun_at, enqueue_why, enqueue_sized, enqueue_of, dequeue_why, dequeue_sized, dequeue_of};
 
-use answers::Done;
+use answers::Refusal;
 use table::Point;
-use words::{Frame, Level, Measured, Node, Queue, Sizes, Word};
+use words::{Frame, Level, Node, Queue, Sizes, Word};
 
 // The frame of an operation that begins.
 fn begin_frame(op: u16, point: u16, q: Queue, n: Node) -> Frame
     ensures { result ≡ begun_at op point q n }
 {
-    let mut f = words::no_frame();
-    f.op = op;
-    f.point = point;
-    f.queue = q;
-    f.node = n;
-    f
+    Frame {
+        op,
+        point,
+        queue: q,
+        node: n,
+        ..words::no_frame()
+    }
 }
 
-// The number of the first refusal of an enqueue, or 0.
-pub fn enqueue_why(t: &[u16], s: Sizes, l: Level, q: Queue, n: Node) -> u16
+// The first refusal of an enqueue, if there is one.
+#[tactic(auto, using(conditions::specs::Laws::has_node), unfolding(crate::specs::Begin::enqueue_why))]
+pub fn enqueue_why(t: &[u16], s: Sizes, l: Level, q: Queue, n: Node) -> Result<(), Refusal>
     requires { Fits s t.now }
-    ensures { result ≡ enqueue_why s t.now l q n }
+    ensures { refusal_number result ≡ enqueue_why s t.now l q n }
 {
     if conditions::no_level(s, l) {
-        return 3;
+        return Err(Refusal::Level);
     }
     if conditions::no_queue(s, q) {
-        return 4;
+        return Err(Refusal::Queue);
     }
     if conditions::no_node(s, n) {
-        return 5;
+        return Err(Refusal::Node);
     }
     if conditions::is_busy(t, s, l) {
-        return 6;
+        return Err(Refusal::Busy);
     }
     if conditions::in_use(t, s, n) {
-        return 7;
+        return Err(Refusal::InUse);
     }
-    0
+    Ok(())
 }
 
 // Begins an enqueue that is not refused, on a table that was measured.
+#[tactic(auto, using(crate::specs::Laws::enqueues), unfolding(crate::specs::Begin::unless, crate::specs::Begin::enqueue_sized))]
 pub fn put_enqueue(t: &mut [u16], s: Sizes, l: Level, q: Queue, n: Node)
     requires fits { Fits s t.old }
     requires n_value { enqueue_why s t.old l q n ≡ 0 }
@@ -56,50 +59,48 @@ pub fn put_enqueue(t: &mut [u16], s: Sizes, l: Level, q: Queue, n: Node)
 }
 
 // Begins an enqueue on a table that was measured.
-fn enqueue_sized(t: &mut [u16], s: Sizes, l: Level, q: Queue, n: Node) -> Done
+#[tactic(auto, unfolding(crate::specs::Begin::unless, crate::specs::Begin::enqueue_sized))]
+fn enqueue_sized(t: &mut [u16], s: Sizes, l: Level, q: Queue, n: Node) -> Result<(), Refusal>
     requires { Fits s t.old }
-    ensures { enqueue_sized s t.old l q n ≡ (done_says result, t.new) }
+    ensures { enqueue_sized s t.old l q n ≡ (answer_says result, t.new) }
 {
-    let why = enqueue_why(t, s, l, q, n);
-    if why == 0 {
-        put_enqueue(t, s, l, q, n);
-        Done::Yes
-    } else {
-        Done::Refused(why)
-    }
+    enqueue_why(t, s, l, q, n)?;
+    put_enqueue(t, s, l, q, n);
+    Ok(())
 }
 
 // Hands a user's node to a queue at a level.
-pub fn begin_enqueue(t: &mut [u16], l: Level, q: Queue, n: Node) -> Done
-    ensures { enqueue_of t.old l q n ≡ (done_says result, t.new) }
+#[tactic(auto, using(words::specs::Laws::measured_fits), unfolding(crate::specs::Begin::enqueue_of, crate::specs::Begin::enqueue_measured))]
+pub fn begin_enqueue(t: &mut [u16], l: Level, q: Queue, n: Node) -> Result<(), Refusal>
+    ensures { enqueue_of t.old l q n ≡ (answer_says result, t.new) }
 {
-    match words::measure(t) {
-        Measured::Sized(s) => enqueue_sized(t, s, l, q, n),
-        Measured::Unfit => Done::Refused(1),
-    }
+    let s = words::measure(t).ok_or(Refusal::Table)?;
+    enqueue_sized(t, s, l, q, n)
 }
 
-// The number of the first refusal of a dequeue, or 0.
-pub fn dequeue_why(t: &[u16], s: Sizes, l: Level, q: Queue) -> u16
+// The first refusal of a dequeue, if there is one.
+#[tactic(auto, using(conditions::specs::Laws::has_level), unfolding(crate::specs::Begin::dequeue_why))]
+pub fn dequeue_why(t: &[u16], s: Sizes, l: Level, q: Queue) -> Result<(), Refusal>
     requires { Fits s t.now }
-    ensures { result ≡ dequeue_why s t.now l q }
+    ensures { refusal_number result ≡ dequeue_why s t.now l q }
 {
     if conditions::no_level(s, l) {
-        return 3;
+        return Err(Refusal::Level);
     }
     if conditions::no_queue(s, q) {
-        return 4;
+        return Err(Refusal::Queue);
     }
     if conditions::is_busy(t, s, l) {
-        return 6;
+        return Err(Refusal::Busy);
     }
     if conditions::is_dequeued(t, s, l, q) {
-        return 8;
+        return Err(Refusal::Dequeued);
     }
-    0
+    Ok(())
 }
 
 // Begins a dequeue that is not refused, on a table that was measured.
+#[tactic(auto, using(crate::specs::Laws::dequeues), unfolding(crate::specs::Begin::unless, crate::specs::Begin::dequeue_sized))]
 pub fn put_dequeue(t: &mut [u16], s: Sizes, l: Level, q: Queue)
     requires fits { Fits s t.old }
     requires q_value { dequeue_why s t.old l q ≡ 0 }
@@ -109,25 +110,21 @@ pub fn put_dequeue(t: &mut [u16], s: Sizes, l: Level, q: Queue)
 }
 
 // Begins a dequeue on a table that was measured.
-fn dequeue_sized(t: &mut [u16], s: Sizes, l: Level, q: Queue) -> Done
+#[tactic(auto, unfolding(crate::specs::Begin::unless, crate::specs::Begin::dequeue_sized))]
+fn dequeue_sized(t: &mut [u16], s: Sizes, l: Level, q: Queue) -> Result<(), Refusal>
     requires { Fits s t.old }
-    ensures { dequeue_sized s t.old l q ≡ (done_says result, t.new) }
+    ensures { dequeue_sized s t.old l q ≡ (answer_says result, t.new) }
 {
-    let why = dequeue_why(t, s, l, q);
-    if why == 0 {
-        put_dequeue(t, s, l, q);
-        Done::Yes
-    } else {
-        Done::Refused(why)
-    }
+    dequeue_why(t, s, l, q)?;
+    put_dequeue(t, s, l, q);
+    Ok(())
 }
 
 // Begins to take a node out of a queue at a level.
-pub fn begin_dequeue(t: &mut [u16], l: Level, q: Queue) -> Done
-    ensures { dequeue_of t.old l q ≡ (done_says result, t.new) }
+#[tactic(auto, using(words::specs::Laws::measured_fits), unfolding(crate::specs::Begin::dequeue_of, crate::specs::Begin::dequeue_measured))]
+pub fn begin_dequeue(t: &mut [u16], l: Level, q: Queue) -> Result<(), Refusal>
+    ensures { dequeue_of t.old l q ≡ (answer_says result, t.new) }
 {
-    match words::measure(t) {
-        Measured::Sized(s) => dequeue_sized(t, s, l, q),
-        Measured::Unfit => Done::Refused(1),
-    }
+    let s = words::measure(t).ok_or(Refusal::Table)?;
+    dequeue_sized(t, s, l, q)
 }

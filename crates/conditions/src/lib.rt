@@ -27,13 +27,14 @@ pub enum Sought {
     DequeueOn(Queue),
 }
 
+#[tactic(auto, unfolding(crate::specs::Conditions::sought))]
 fn is_sought(w: Sought, f: Frame) -> bool
     ensures { result ≡ sought w f }
 {
     match w {
         Sought::Running => f.op != 0,
-        Sought::RunningOn(q) => { if f.op != 0 { f.queue.0 == q.0 } else { false } }
-        Sought::DequeueOn(q) => { if f.op == 2 { f.queue.0 == q.0 } else { false } }
+        Sought::RunningOn(q) => f.op != 0 && f.queue == q,
+        Sought::DequeueOn(q) => f.op == 2 && f.queue == q,
     }
 }
 
@@ -43,36 +44,38 @@ fn some_level(t: &[u16], s: Sizes, w: Sought, from: usize, to: usize) -> bool
     requires to_le_levels { to ≤ s.levels }
     ensures { result ≡ some s t.now w from (to - from) }
 {
-    let mut i = from;
-    while i < to {
+    for i in from..to {
         let l = Level(words::narrow(i));
         if is_sought(w, words::read_frame(t, s, l)) {
             return true;
         }
-        i += 1;
     }
     false
 }
 
+#[tactic(auto, unfolding(crate::specs::Conditions::no_level))]
 pub fn no_level(s: Sizes, l: Level) -> bool
     ensures { result ≡ no_level s l }
 {
     s.levels <= l.index()
 }
 
+#[tactic(auto, unfolding(crate::specs::Conditions::no_queue))]
 pub fn no_queue(s: Sizes, q: Queue) -> bool
     ensures { result ≡ no_queue s q }
 {
-    !words::between(1, s.queues, words::wide(q.0))
+    !words::between(1, s.queues, usize::from(q.0))
 }
 
+#[tactic(auto, unfolding(crate::specs::Conditions::no_node))]
 pub fn no_node(s: Sizes, n: Node) -> bool
     requires { s.queues < 65536 }
     ensures { result ≡ no_node s n }
 {
-    !words::between(s.queues + 1, s.nodes, words::wide(n.0))
+    !words::between(s.queues + 1, s.nodes, usize::from(n.0))
 }
 
+#[tactic(auto, unfolding(crate::specs::Conditions::busy))]
 pub fn is_busy(t: &[u16], s: Sizes, l: Level) -> bool
     requires { Fits s t.now }
     ensures { result ≡ busy s t.now l }
@@ -80,6 +83,7 @@ pub fn is_busy(t: &[u16], s: Sizes, l: Level) -> bool
     some_level(t, s, Sought::Running, l.index(), s.levels)
 }
 
+#[tactic(auto, unfolding(crate::specs::Conditions::in_use))]
 pub fn in_use(t: &[u16], s: Sizes, n: Node) -> bool
     requires fits { Fits s t.now }
     requires n_value { has s (Use n) ≡ true }
@@ -88,6 +92,7 @@ pub fn in_use(t: &[u16], s: Sizes, n: Node) -> bool
     words::load(t, s, Word::Use(n)) != 0
 }
 
+#[tactic(auto, unfolding(crate::specs::Conditions::dequeued))]
 pub fn is_dequeued(t: &[u16], s: Sizes, l: Level, q: Queue) -> bool
     requires fits { Fits s t.now }
     requires l_le_levels { l.0 ≤ s.levels }
@@ -96,6 +101,7 @@ pub fn is_dequeued(t: &[u16], s: Sizes, l: Level, q: Queue) -> bool
     some_level(t, s, Sought::DequeueOn(q), 0, l.index())
 }
 
+#[tactic(auto, unfolding(crate::specs::Conditions::unquiet))]
 pub fn is_unquiet(t: &[u16], s: Sizes, q: Queue) -> bool
     requires { Fits s t.now }
     ensures { result ≡ unquiet s t.now q }

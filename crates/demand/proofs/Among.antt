@@ -1,5 +1,6 @@
 -- A dequeue begun on a quiet queue, with nothing else begun on that queue, among whatever goes on on other queues: one step of any level.
 -- What was in the queue when it began is what it returns, and then what is in the queue at its end.
+use Rattle.std.specs.Prelude.{Some}
 use Prim.Native.Nat.{ℕ, ◌+◌}
 use mathlib.Core.Path.{◌≡◌, refl, sym, ap, ◌∙◌, subst}
 use mathlib.Core.Logic.{◌≢◌, inl, inr}
@@ -13,7 +14,6 @@ use Rattle.words.specs.declared.Queue.{Queue}
 use Rattle.words.specs.declared.Node.{Node}
 use Rattle.words.specs.declared.Sizes.{Sizes}
 use Rattle.words.specs.declared.Frame.{Frame}
-use Rattle.words.specs.declared.Measured.TheVariants.{Sized}
 use Rattle.words.specs.Layout.{level, no_frame, measured}
 use Rattle.answers.specs.declared.End.{End}
 use Rattle.answers.specs.Said.{Step, going_on, ended}
@@ -87,7 +87,7 @@ pub record Begun : Type 0 where
   pub l : Level
   pub q : Queue
   pub fronts : ℕ → List ℕ
-  pub sized : measured t ≡ Sized s
+  pub sized : measured t ≡ Some s
   pub world : World s (state_of s t) fronts
   pub nobody : Nobody s t q
 

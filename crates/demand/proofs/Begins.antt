@@ -1,4 +1,5 @@
 -- An accepted begin: what its refusals did not find, and what it keeps of all queues.
+use Rattle.std.specs.Prelude.{Some}
 use Prim.Native.Nat.{ℕ, zero, suc, ◌+◌, ◌-◌, ◌≤◌, ◌<◌}
 use mathlib.Core.Path.{◌≡◌, refl, sym, ap, ◌∙◌}
 use mathlib.Core.Logic.{◌≢◌}
@@ -12,7 +13,6 @@ use Rattle.words.specs.declared.Queue.{Queue}
 use Rattle.words.specs.declared.Node.{Node}
 use Rattle.words.specs.declared.Sizes.{Sizes}
 use Rattle.words.specs.declared.Frame.{Frame}
-use Rattle.words.specs.declared.Measured.TheVariants.{Sized}
 use Rattle.words.specs.declared.Word.TheVariants.{Head, Use}
 use Rattle.words.specs.Layout.{level, node, within, measured, has, rd, wr, frame_of, put_frame}
 use Rattle.words.specs.Laws.{Bound, bound, within_low, within_high, measured_wr, measured_put, measured_fits, has_is}
@@ -100,7 +100,7 @@ pub record CanDequeue (s : Sizes) (t : List ℕ) (l : Level) (q : Queue) (u : Li
   pub mem_is : memory s u ≡ memory s t
   pub frames_are : frames s u ≡ put (frames s t) l.0 (begun 2 D1 q (node 0))
 
-module _ (s : Sizes) (t : List ℕ) (m : measured t ≡ Sized s) (l : Level) where
+module _ (s : Sizes) (t : List ℕ) (m : measured t ≡ Some s) (l : Level) where
   pub not_busy : busy s t l ≡ false → l.0 < s.levels → IdleFrom l.0 (state_of s t)
   unfolding busy
   not_busy h low j a =
@@ -174,7 +174,7 @@ module _ (s : Sizes) (t : List ℕ) (l : Level) (q : Queue) (u : List ℕ) where
   pub dequeue_state : CanDequeue s t l q u → state_of s u ≡ dequeue_begun (state_of s t) l.0 q.0
   dequeue_state c = λ i. record { mem = c.mem_is i; frames = c.frames_are i }
 
-module _ (s : Sizes) (t : List ℕ) (fronts : ℕ → List ℕ) (m : measured t ≡ Sized s) (w : World s (state_of s t) fronts) (l : Level) where
+module _ (s : Sizes) (t : List ℕ) (fronts : ℕ → List ℕ) (m : measured t ≡ Some s) (w : World s (state_of s t) fronts) (l : Level) where
   pub dequeue_kept : (q : Queue) (u : List ℕ) → dequeue_of t l q ≡ (says tt, u) → Keeps s t fronts (λ r. []) (λ r. []) u
   dequeue_kept q u h =
       record {

@@ -1,4 +1,5 @@
 -- A dequeue alone, in the table: the run of its steps that memory shows is the run of the table.
+use Rattle.std.specs.Prelude.{Some}
 use Prim.Native.Nat.{ℕ, zero, suc, ◌+◌, ◌≤◌, ◌<◌}
 use mathlib.Core.Path.{◌≡◌, refl, sym, ap, ◌∙◌, subst}
 use mathlib.Core.Logic.{◌≢◌}
@@ -7,7 +8,6 @@ use native.Mathlib.Omega.{arith}
 use Rattle.words.specs.declared.Queue.{Queue}
 use Rattle.words.specs.declared.Sizes.{Sizes}
 use Rattle.words.specs.declared.Frame.{Frame}
-use Rattle.words.specs.declared.Measured.TheVariants.{Sized}
 use Rattle.words.specs.Layout.{level, node, measured}
 use Rattle.answers.specs.declared.End.{End}
 use Rattle.answers.specs.Said.{says, going_on, ended, Run, after, an_end}
@@ -39,7 +39,7 @@ pub record Ending (l o : ℕ) (q : Queue) (x : ℕ) (e : End) : Type 0 where
 module _ (s : Sizes) (l : ℕ) (low : l < s.levels) where
   -- the frame f at level l, of memory M, is next
   pub record Next (M : Mem) (f : Frame) (t : List ℕ) (fronts : ℕ → List ℕ) : Type 0 where
-    pub sized : measured t ≡ Sized s
+    pub sized : measured t ≡ Some s
     pub world : World s (state_of s t) fronts
     pub mem : memory s t ≡ M
     pub frame : frames s t l ≡ f

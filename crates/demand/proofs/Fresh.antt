@@ -1,4 +1,5 @@
 -- A fresh table is sound in every queue: each chain is its sentinel alone, and no node is a queue's but those.
+use Rattle.std.specs.Prelude.{Some}
 use Prim.Native.Nat.{ℕ, ◌≤◌}
 use mathlib.Core.Path.{◌≡◌, refl, sym, ap, ◌∙◌}
 use mathlib.Core.Bool.{Bool, true, false, cond, not}
@@ -10,7 +11,6 @@ use borrow.Author.Tests.{ne_eqb, ltb-true, ltb-false}
 use Rattle.words.specs.declared.Sizes.{Sizes}
 use Rattle.words.specs.declared.Frame.{Frame}
 use Rattle.words.specs.declared.Word.{Word}
-use Rattle.words.specs.declared.Measured.TheVariants.{Sized}
 use Rattle.words.specs.Layout.{level, limits, words, measured, has, rd}
 use Rattle.words.specs.Laws.{Bound, measured_limits, has_is}
 use Rattle.answers.specs.Said.{Said, refused, says}
@@ -29,7 +29,7 @@ use Rattle.demand.proofs.Bridge.{same_said, no_answer}
 
 -- a fresh table that was accepted, as the theory sees it: zeros, but for head and tail of the queues
 pub record Freshly (s : Sizes) (t : List ℕ) : Type 0 where
-  pub sized : measured t ≡ Sized s
+  pub sized : measured t ≡ Some s
   pub idle : (j : ℕ) → (frames s t j).op ≡ 0
   pub lq : (j : ℕ) → (memory s t).lq j ≡ 0
   pub next : (x : ℕ) → (memory s t).next x ≡ 0

@@ -1,10 +1,10 @@
 -- What an accepted call, and any number of them, keep of all queues: with what they returned from each queue, and what they handed to it.
+use Rattle.std.specs.Prelude.{Some}
 use Prim.Native.Nat.{ℕ, ◌+◌, ◌≤◌}
 use mathlib.Core.Path.{◌≡◌, refl}
 use mathlib.Core.List.{List, [], ◌++◌, append_assoc}
 use native.Mathlib.Omega.{arith}
 use Rattle.words.specs.declared.Sizes.{Sizes}
-use Rattle.words.specs.declared.Measured.TheVariants.{Sized}
 use Rattle.words.specs.Layout.{measured}
 use Rattle.lists.specs.Count.{cnt, counts}
 use Rattle.lists.specs.Beginning.{Beginning, begins_same, begins_trans, begins_after}
@@ -13,7 +13,7 @@ use Rattle.state.specs.Queues.{own}
 use Rattle.demand.proofs.World.{World}
 
 pub record Keeps (s : Sizes) (t : List ℕ) (fronts : ℕ → List ℕ) (returned handed : ℕ → List ℕ) (u : List ℕ) : Type 0 where
-  pub sized : measured u ≡ Sized s
+  pub sized : measured u ≡ Some s
   pub fronts' : ℕ → List ℕ
   pub world : World s (state_of s u) fronts'
   -- what was frozen before is the beginning of what was returned since and is frozen now
@@ -22,7 +22,7 @@ pub record Keeps (s : Sizes) (t : List ℕ) (fronts : ℕ → List ℕ) (returne
   pub balance : (q : ℕ) → 1 ≤ q → (n : ℕ)
       → own s.queues (memory s u).uses q n + cnt n (returned q) ≡ own s.queues (memory s t).uses q n + cnt n (handed q)
 
-pub keeps_same : (s : Sizes) (t : List ℕ) (fronts : ℕ → List ℕ) → measured t ≡ Sized s → World s (state_of s t) fronts
+pub keeps_same : (s : Sizes) (t : List ℕ) (fronts : ℕ → List ℕ) → measured t ≡ Some s → World s (state_of s t) fronts
     → Keeps s t fronts (λ q. []) (λ q. []) t
 keeps_same s t fronts m w =
     record { sized = m; fronts' = fronts; world = w; begins = λ q. begins_same (fronts q); balance = λ q h n. refl }

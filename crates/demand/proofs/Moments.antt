@@ -1,4 +1,5 @@
 -- A quiet moment: what the invariant of a quiet queue says of the words.
+use Rattle.std.specs.Prelude.{Some}
 use Prim.Native.Nat.{ℕ, ◌+◌, ◌≤◌, ◌<◌}
 use mathlib.Core.Path.{◌≡◌, refl, sym, ap, ◌∙◌}
 use mathlib.Core.Logic.{◌≢◌}
@@ -12,7 +13,6 @@ use borrow.Author.Tests.{eq-eqb, ne_eqb, ltb-true, ltb-false, le-ltb}
 use Rattle.words.specs.declared.Queue.{Queue}
 use Rattle.words.specs.declared.Sizes.{Sizes}
 use Rattle.words.specs.declared.Frame.{Frame}
-use Rattle.words.specs.declared.Measured.TheVariants.{Sized}
 use Rattle.words.specs.declared.Word.TheVariants.{Head, Tail}
 use Rattle.words.specs.Layout.{level, within, measured, rd, frame_of}
 use Rattle.words.specs.Laws.{Bound, within_low, within_high, within_is, has_is}
@@ -67,7 +67,7 @@ nobody_on s t q w u =
     at j on false e = let past = ltb-false j s.levels e in on.0 (frame_idle s t j (λ low. absurd (omega arith)))
 
 -- the two tests of the quiet call
-tested : (s : Sizes) (t : List ℕ) (q : Queue) → measured t ≡ Sized s → QuietAt t q
+tested : (s : Sizes) (t : List ℕ) (q : Queue) → measured t ≡ Some s → QuietAt t q
     → (within 1 s.queues q.0 ≡ true) × (unquiet s t q ≡ false)
 unfolding quiet_of quiet_measured no_queue
 tested s t q m h = by (within 1 s.queues q.0) (unquiet s t q) (rw m at h)
@@ -77,7 +77,7 @@ tested s t q m h = by (within 1 s.queues q.0) (unquiet s t q) (rw m at h)
     by true true e = let z : ◌≡◌ {A = ℕ} 0 1 = cc in absurd (omega arith)
     by false b e = let z : ◌≡◌ {A = ℕ} 0 1 = cc in absurd (omega arith)
 
-pub quietly : (s : Sizes) (t : List ℕ) (q : Queue) → measured t ≡ Sized s → QuietAt t q → Nobody s t q
+pub quietly : (s : Sizes) (t : List ℕ) (q : Queue) → measured t ≡ Some s → QuietAt t q → Nobody s t q
 quietly s t q m h = let b = tested s t q m h in nobody_on s t q b.0 b.1
 
 -- where nobody is on the queue, the quiet call says so
@@ -90,7 +90,7 @@ not_sought q f h = by (eqb f.op 0) (same? f.op 0) (eqb f.queue.0 q.0) (same? f.q
     by false (apart e) true (same k) = absurd (h (e, k))
     by false (apart e) false (apart k) = refl
 
-pub quiet_then : (s : Sizes) (t : List ℕ) (q : Queue) → measured t ≡ Sized s → Nobody s t q → QuietAt t q
+pub quiet_then : (s : Sizes) (t : List ℕ) (q : Queue) → measured t ≡ Some s → Nobody s t q → QuietAt t q
 unfolding quiet_of quiet_measured no_queue unquiet
 quiet_then s t q m nb =
     rw (m, within_is 1 s.queues q.0 nb.some_queue nb.queue_known, none_sought s t (RunningOn q) 0 s.levels off)
@@ -112,7 +112,7 @@ starts q (link {x = x} {xs = xs} e r) held real z = omega (arith, real x (cnt_se
 
 -- ---- the quiet moment
 
-module _ (s : Sizes) (t : List ℕ) (fronts : ℕ → List ℕ) (m : measured t ≡ Sized s) (w : World s (state_of s t) fronts) (q : Queue)
+module _ (s : Sizes) (t : List ℕ) (fronts : ℕ → List ℕ) (m : measured t ≡ Some s) (w : World s (state_of s t) fronts) (q : Queue)
     (quiet : Nobody s t q) where
   sound : Sound s q.0 (state_of s t) (fronts q.0)
   sound = w.sound q.0 quiet.some_queue quiet.queue_known
@@ -209,7 +209,7 @@ module _ (s : Sizes) (t : List ℕ) (fronts : ℕ → List ℕ) (m : measured t 
       by false e = let z : ◌≡◌ {A = ℕ} 0 1 = cc in omega arith
 
 -- a listing is never refused with 10
-pub listing_unharmed : (s : Sizes) (t : List ℕ) (fronts : ℕ → List ℕ) → measured t ≡ Sized s → World s (state_of s t) fronts
+pub listing_unharmed : (s : Sizes) (t : List ℕ) (fronts : ℕ → List ℕ) → measured t ≡ Some s → World s (state_of s t) fronts
     → (q : Queue) (room : List ℕ) → (listing_of t q room).0 ≢ refused 10
 unfolding listing_of listing_measured listing_sized no_queue
 listing_unharmed s t fronts m w q room = rw m (by (within 1 s.queues q.0) refl (unquiet s t q) refl)

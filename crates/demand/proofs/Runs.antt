@@ -1,11 +1,11 @@
 -- A run of steps: what its steps keep, it keeps; and it never stops by refusal 10.
+use Rattle.std.specs.Prelude.{Some}
 use Prim.Native.Nat.{ℕ, zero, suc, ◌+◌}
 use mathlib.Core.Path.{◌≡◌, refl}
 use mathlib.Core.Logic.{◌≢◌}
 use mathlib.Core.List.{List, []}
 use native.Mathlib.Omega.{arith}
 use Rattle.words.specs.declared.Sizes.{Sizes}
-use Rattle.words.specs.declared.Measured.TheVariants.{Sized}
 use Rattle.words.specs.Layout.{measured}
 use Rattle.answers.specs.Said.{Said, says, going_on, ended, Run, after, an_end, spent, nothing_runs, refusal_10}
 use Rattle.steps.specs.Step.{step_sized}
@@ -25,7 +25,7 @@ module _ (s : Sizes) where
     pub keeps : Keeps s t fronts (λ q. returned_by_run q said) (λ q. []) table
     pub unharmed : (n : ℕ) → said ≢ after n refusal_10
 
-  pub run_kept : (budget n : ℕ) (t : List ℕ) (fronts : ℕ → List ℕ) → measured t ≡ Sized s → World s (state_of s t) fronts
+  pub run_kept : (budget n : ℕ) (t : List ℕ) (fronts : ℕ → List ℕ) → measured t ≡ Some s → World s (state_of s t) fronts
       → RunKept t fronts (run_from s budget n t)
   unfolding run_from ran_on
   run_kept zero n t fronts m w =
@@ -33,7 +33,7 @@ module _ (s : Sizes) where
   run_kept (suc budget) n t fronts m w = by (step_taken s t fronts m w) (run_kept budget (n + 1))
     where
       Rest : Type 0
-      Rest = (t : List ℕ) (fronts : ℕ → List ℕ) → measured t ≡ Sized s → World s (state_of s t) fronts → RunKept t fronts (run_from s budget (n + 1) t)
+      Rest = (t : List ℕ) (fronts : ℕ → List ℕ) → measured t ≡ Some s → World s (state_of s t) fronts → RunKept t fronts (run_from s budget (n + 1) t)
 
       by : Outcome s t fronts → Rest → RunKept t fronts (ran_on n (run_from s budget) (step_sized s t).0 (step_sized s t).1)
       by (idle e h) on =

@@ -1,4 +1,5 @@
 -- A dequeue begun on a quiet queue, among whatever goes on on other queues: any calls that begin nothing on its queue.
+use Rattle.std.specs.Prelude.{Some}
 use Prim.Native.Nat.{ℕ, zero, suc, ◌+◌}
 use mathlib.Core.Path.{◌≡◌, refl, sym, ap, ◌∙◌, subst}
 use mathlib.Core.Logic.{◌≢◌}
@@ -9,7 +10,6 @@ use lib.Dec.{eqb}
 use borrow.Author.Tests.{ne_eqb}
 use Rattle.words.specs.declared.Queue.{Queue}
 use Rattle.words.specs.declared.Frame.{Frame}
-use Rattle.words.specs.declared.Measured.TheVariants.{Sized}
 use Rattle.words.specs.Layout.{queue, node, measured}
 use Rattle.answers.specs.declared.End.{End}
 use Rattle.answers.specs.Said.{says, Step, going_on, ended, Run}
@@ -39,7 +39,7 @@ module _ (B : Begun) where
   -- all queues are sound in table x, and on q these operations have ended
   pub record Since (x : List ℕ) (es : List End) : Type 0 where
     pub fronts : ℕ → List ℕ
-    pub sized : measured x ≡ Sized s
+    pub sized : measured x ≡ Some s
     pub world : World s (state_of s x) fronts
     pub stage : Stage B x fronts es
 

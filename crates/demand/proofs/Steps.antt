@@ -1,5 +1,6 @@
 -- One step of the table, for all queues at once: it is never refused but with 9, where nothing runs; what holds of every queue holds
 -- afterwards; what it returned is the first of what was frozen; and a node leaves its queue exactly where it is returned.
+use Rattle.std.specs.Prelude.{Some}
 use Prim.Native.Nat.{ℕ, zero, suc, ◌+◌, ◌≤◌, ◌<◌}
 use mathlib.Core.Path.{◌≡◌, refl, sym, ap, ◌∙◌}
 use mathlib.Core.Logic.{◌≢◌}
@@ -12,7 +13,6 @@ use borrow.Author.Tests.{eq-eqb, ne_eqb, le-leb, lt-leb}
 use Rattle.words.specs.declared.Level.{Level}
 use Rattle.words.specs.declared.Sizes.{Sizes}
 use Rattle.words.specs.declared.Frame.{Frame}
-use Rattle.words.specs.declared.Measured.TheVariants.{Sized}
 use Rattle.words.specs.declared.Word.{Word}
 use Rattle.words.specs.declared.Word.TheVariants.{LevelNode, LevelQueue, Head, Tail, Next, Use}
 use Rattle.words.specs.Layout.{level, words, measured, frame_of}
@@ -219,7 +219,7 @@ pub data Outcome (s : Sizes) (t : List ℕ) (fronts : ℕ → List ℕ) : Type 0
   idle : step_sized s t ≡ (refused 9, t) → ((j : ℕ) → (frames s t j).op ≡ 0) → Outcome s t fronts
   took : (l : ℕ) (x : Step) → StepAt s t fronts l x → Outcome s t fronts
 
-module _ (s : Sizes) (t : List ℕ) (fronts : ℕ → List ℕ) (m : measured t ≡ Sized s) (w : World s (state_of s t) fronts) where
+module _ (s : Sizes) (t : List ℕ) (fronts : ℕ → List ℕ) (m : measured t ≡ Some s) (w : World s (state_of s t) fronts) where
   -- the frame at level l is served
   module _ (l : ℕ) (low : l < s.levels) (run : (frame_of s t (level l)).op ≢ 0)
       (top : (j : ℕ) → l < j → j < s.levels → (frame_of s t (level j)).op ≡ 0) where
@@ -259,7 +259,7 @@ module _ (s : Sizes) (t : List ℕ) (fronts : ℕ → List ℕ) (m : measured t 
         by true (same z) = absurd (omega (arith, k.point z, number_d7 f.point e))
         by false (apart z) = let o = k.op in let r = running.0 in omega arith
 
-    took_from : (u : List ℕ) → measured u ≡ Sized s → Bridged s t u l (counted f) x
+    took_from : (u : List ℕ) → measured u ≡ Some s → Bridged s t u l (counted f) x
         → Keeps s t fronts (λ r. returned_by_step r (says_of (level l) (counted f) a)) (λ r. []) u
     unfolding counted
     took_from u sized b =

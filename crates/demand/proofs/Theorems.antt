@@ -1,4 +1,5 @@
 -- Demand 3, proved: each statement of specs/Demand.antt, from what every history keeps.
+use Rattle.std.specs.Prelude.{Some}
 use Prim.Native.Nat.{ℕ, ◌+◌, ◌≤◌, ◌<◌}
 use mathlib.Core.Path.{◌≡◌, refl, sym, ap, ◌∙◌}
 use mathlib.Core.Bool.{Bool, true, false, cond}
@@ -8,7 +9,6 @@ use lib.Dec.{eqb}
 use borrow.Author.Tests.{ne_eqb, lt-ltb}
 use Rattle.words.specs.declared.Queue.{Queue}
 use Rattle.words.specs.declared.Sizes.{Sizes}
-use Rattle.words.specs.declared.Measured.TheVariants.{Sized}
 use Rattle.words.specs.declared.Frame.{Frame}
 use Rattle.words.specs.declared.Node.{Node}
 use Rattle.words.specs.declared.Word.TheVariants.{Head, Use}
@@ -58,7 +58,7 @@ all_append f (e ∷ es) fs = ap (λ (l : List ℕ). f e ++ l) (all_append f es f
 
 -- what holds in every table that a history reaches
 pub record Here (s : Sizes) (es : List Event) (t : List ℕ) : Type 0 where
-  pub sized : measured t ≡ Sized s
+  pub sized : measured t ≡ Some s
   pub fronts : ℕ → List ℕ
   pub world : World s (state_of s t) fronts
   -- a node of queue q, but for its sentinel, was handed to it once more than it was returned

@@ -1,4 +1,5 @@
 -- The numbers of a schedule's lines are small, so its text is short and can be written.
+use Rattle.std.specs.Prelude.{Some}
 use Prim.Native.Nat.{ℕ, ◌+◌, ◌*◌, ◌≤◌, ◌<◌}
 use mathlib.Core.Path.{◌≡◌, refl}
 use mathlib.Core.Bool.{Bool, true, false, cond}
@@ -8,7 +9,6 @@ use lib.Dec.{ltb, eqb}
 use lib.ListN.{length, length-append}
 use borrow.Author.Tests.{lt-ltb, eqb-false}
 use Rattle.words.specs.declared.Sizes.{Sizes}
-use Rattle.words.specs.declared.Measured.TheVariants.{Sized}
 use Rattle.words.specs.Layout.{measured}
 use Rattle.words.specs.Laws.{Limits, measured_limits}
 use Rattle.decimals.specs.Decimals.{width_of, field_of}
@@ -175,7 +175,7 @@ events_few cs (o ∷ os) =
 
 -- an operation that was accepted is one of the table's
 module _ (s : Sizes) where
-  op_bounded : (t u : List ℕ) (o : Op) → measured t ≡ Sized s → Accepted t u (call_of o) → OpBounded o
+  op_bounded : (t u : List ℕ) (o : Op) → measured t ≡ Some s → Accepted t u (call_of o) → OpBounded o
   unfolding op_event
   op_bounded t u o m = by (eqb o.op 1)
     where
@@ -187,7 +187,7 @@ module _ (s : Sizes) where
       by true (enqueue h) = let c = can_enqueue s t m o.level o.queue o.node u h in omega (arith, lim)
       by false (dequeue h) = let c = can_dequeue s t m o.level o.queue u h in omega (arith, lim)
 
-  pub ops_bounded : {ms : List Move} {ops : List Op} {es : List history.Event} (t u : List ℕ) (fronts : ℕ → List ℕ) → measured t ≡ Sized s
+  pub ops_bounded : {ms : List Move} {ops : List Op} {es : List history.Event} (t u : List ℕ) (fronts : ℕ → List ℕ) → measured t ≡ Some s
       → World s (state_of s t) fronts → Calls ms ops es → History t es u → Each OpBounded ops
   ops_bounded t u fronts m w calls.none h = tt
   ops_bounded t v fronts m w (calls.step {x = x} c) (call {u = u} a h) =

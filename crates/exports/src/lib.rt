@@ -3,7 +3,7 @@
 
 ghost use Rattle.std.specs.Prelude.{◌≡◌};
 ghost use Rattle.words.specs.Layout.{level, queue, node};
-ghost use Rattle.answers.specs.Said.{done_says, step_says, run_says, quiet_says, count_says, waiting_says};
+ghost use Rattle.answers.specs.Said.{number, answer_says, step_says, why_says, run_says};
 ghost use Rattle.fresh.specs.Fresh.{fresh_of};
 ghost use Rattle.begins.specs.Begin.{enqueue_of, dequeue_of};
 ghost use Rattle.steps.specs.Step.{step_of};
@@ -13,6 +13,7 @@ ghost use Rattle.asks.specs.Listing.{listing_of};
 ghost use Rattle.waiting.specs.Waiting.{waiting_of};
 ghost use Rattle.exports.specs.Reply.{
   packed,
+  why_code,
   done_reply,
   step_reply,
   run_reply,
@@ -30,73 +31,54 @@ ghost use Rattle.exports.specs.Reply.{
   waiting_out,
 };
 
-use answers::{Counted, Done, End, Quiet, Ran, Stepped, Waiting};
+use answers::{End, Ran, Refusal, Why};
 use words::{Level, Node, Queue};
 
 // A value and a code as one number.
 fn pack(value: u16, code: u16) -> u32
     ensures { result ≡ packed value code }
 {
-    value as u32 + 65536 * (code as u32)
+    u32::from(value) + 65536 * u32::from(code)
 }
 
-fn pack_done(a: Done) -> u32
-    ensures { result ≡ done_reply (done_says a) }
+// A refusal's number is its code, and its value is 0.
+fn refused(r: Refusal) -> u32
+    ensures { result ≡ packed 0 (number r) }
 {
-    match a {
-        Done::Yes => pack(0, 0),
-        Done::Refused(r) => pack(0, r),
-    }
+    pack(0, u16::from(r))
 }
 
-fn pack_step(a: Stepped) -> u32
+fn pack_done(a: Result<(), Refusal>) -> u32
+    ensures { result ≡ done_reply (answer_says a) }
+{
+    a.map_or_else(refused, |()| pack(0, 0))
+}
+
+fn pack_step(a: Result<Option<End>, Refusal>) -> u32
     ensures { result ≡ step_reply (step_says a) }
 {
     match a {
-        Stepped::GoingOn => pack(0, 0),
-        Stepped::Ended(_) => pack(0, 20),
-        Stepped::Refused(r) => pack(0, r),
+        Ok(None) => pack(0, 0),
+        Ok(Some(_)) => pack(0, 20),
+        Err(r) => refused(r),
     }
 }
 
-fn pack_run(a: Ran) -> u32
+fn code_of(why: Why) -> u16
+    ensures { result ≡ why_code (why_says why) }
+{
+    match why {
+        Why::Ended(_) => 20,
+        Why::Spent => 0,
+        Why::Idle => 9,
+        Why::Damaged => 10,
+    }
+}
+
+fn pack_run(a: Result<Ran, Refusal>) -> u32
     ensures { result ≡ run_reply (run_says a) }
 {
-    match a {
-        Ran::Ended(n, _) => pack(n, 20),
-        Ran::Spent(n) => pack(n, 0),
-        Ran::Idle(n) => pack(n, 9),
-        Ran::Damaged(n) => pack(n, 10),
-        Ran::Refused(r) => pack(0, r),
-    }
-}
-
-fn pack_quiet(a: Quiet) -> u32
-    ensures { result ≡ quiet_reply (quiet_says a) }
-{
-    match a {
-        Quiet::Yes => pack(1, 0),
-        Quiet::No => pack(0, 0),
-        Quiet::Refused(r) => pack(0, r),
-    }
-}
-
-fn pack_count(a: Counted) -> u32
-    ensures { result ≡ count_reply (count_says a) }
-{
-    match a {
-        Counted::Are(n) => pack(n, 0),
-        Counted::Refused(r) => pack(0, r),
-    }
-}
-
-fn pack_waiting(a: Waiting) -> u32
-    ensures { result ≡ waiting_reply (waiting_says a) }
-{
-    match a {
-        Waiting::Are(_) => pack(0, 0),
-        Waiting::Refused(r) => pack(0, r),
-    }
+    a.map_or_else(refused, |ran| pack(ran.steps, code_of(ran.why)))
 }
 
 fn put_end(end: &mut [u16; 5], e: End)
@@ -105,35 +87,30 @@ fn put_end(end: &mut [u16; 5], e: End)
     *end = [e.op, e.level.0, e.queue.0, e.node.0, e.steps];
 }
 
-fn put_step_end(end: &mut [u16; 5], a: Stepped)
+fn put_step_end(end: &mut [u16; 5], a: Result<Option<End>, Refusal>)
     ensures { end.new ≡ step_end (step_says a) end.old }
 {
-    match a {
-        Stepped::GoingOn => {}
-        Stepped::Ended(e) => put_end(end, e),
-        Stepped::Refused(_) => {}
+    if let Ok(Some(e)) = a {
+        put_end(end, e);
     }
 }
 
-fn put_run_end(end: &mut [u16; 5], a: Ran)
+fn put_run_end(end: &mut [u16; 5], a: Result<Ran, Refusal>)
     ensures { end.new ≡ run_end (run_says a) end.old }
 {
-    match a {
-        Ran::Ended(_, e) => put_end(end, e),
-        Ran::Spent(_) => {}
-        Ran::Idle(_) => {}
-        Ran::Damaged(_) => {}
-        Ran::Refused(_) => {}
+    if let Ok(ran) = a {
+        if let Why::Ended(e) = ran.why {
+            put_end(end, e);
+        }
     }
 }
 
 // The two words of a count, low first.
-fn put_count(count: &mut [u16; 2], a: Waiting)
-    ensures { count.new ≡ count_words (waiting_says a) count.old }
+fn put_count(count: &mut [u16; 2], a: Result<u32, Refusal>)
+    ensures { count.new ≡ count_words (answer_says a) count.old }
 {
-    match a {
-        Waiting::Are(n) => *count = [(n % 65536) as u16, (n / 65536) as u16],
-        Waiting::Refused(_) => {}
+    if let Ok(n) = a {
+        *count = [(n % 65536) as u16, (n / 65536) as u16];
     }
 }
 
@@ -180,7 +157,7 @@ pub extern "C" fn exports_run(t: &mut [u16], budget: u16, end: &mut [u16; 5]) ->
 pub extern "C" fn exports_quiet(t: &[u16], q: u16) -> u32
     ensures { quiet_reply (quiet_of t.now (queue q)) ≡ result }
 {
-    pack_quiet(asks::quiet(t, Queue(q)))
+    asks::quiet(t, Queue(q)).map_or_else(refused, |yes| pack(u16::from(yes), 0))
 }
 
 #[unsafe(no_mangle)]
@@ -189,12 +166,12 @@ pub extern "C" fn exports_waiting(t: &[u16], q: u16, count: &mut [u16; 2]) -> u3
 {
     let a = waiting::waiting(t, Queue(q));
     put_count(count, a);
-    pack_waiting(a)
+    a.map_or_else(refused, |_| pack(0, 0))
 }
 
 #[unsafe(no_mangle)]
 pub extern "C" fn exports_listing(t: &[u16], q: u16, room: &mut [u16]) -> u32
     ensures { count_out (listing_of t.now (queue q) room.old) ≡ (result, room.new) }
 {
-    pack_count(asks::listing(t, Queue(q), room))
+    asks::listing(t, Queue(q), room).map_or_else(refused, |n| pack(n, 0))
 }

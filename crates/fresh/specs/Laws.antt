@@ -2,7 +2,7 @@
 use Prim.Native.Nat.{ℕ, zero, suc, ◌+◌, ◌-◌, ◌≤◌, ◌<◌}
 use Rattle.std.proofs.Math.Path.{◌≡◌, refl, sym, ap}
 use Rattle.std.proofs.Common.{◌∙◌, eq-or-lt_of_le, add-one, length-append, length-drop, get_or-append-add, get_or-drop}
-use Rattle.std.specs.Prelude.{◌≢◌, List, ◌++◌, true, length, replicate, drop, get_or}
+use Rattle.std.specs.Prelude.{◌≢◌, List, ◌++◌, true, length, replicate, drop, get_or, Some}
 use Rattle.std.proofs.Math.Logic.{⊎_elim}
 use native.Mathlib.Omega.{arith}
 use Rattle.std.proofs.lemmas.List.{length-replicate, get_or-replicate}
@@ -11,7 +11,6 @@ use Rattle.words.specs.declared.Level.{Level}
 use Rattle.words.specs.declared.Sizes.{Sizes}
 use Rattle.words.specs.declared.Word.{Word}
 use Rattle.words.specs.declared.Word.TheVariants.{LevelNode, LevelQueue, Head, Tail, Next, Use}
-use Rattle.words.specs.declared.Measured.TheVariants.{Sized}
 use Rattle.words.specs.Layout.{queue, limits, words, measured, has, rd, wr, frame_of, no_frame}
 use Rattle.words.specs.Laws.{
   Bound,
@@ -153,7 +152,7 @@ module _ (s : Sizes) (t : List ℕ) (lim : limits s ≡ true) (room : words s �
   unfolding fresh_table
   fresh_past i p = counts_past s _ i p ∙ ended_past s _ s.queues (omega arith) i p ∙ fill_past (words s) 0 t i p
 
-  pub fresh_measured : measured (fresh_table s t) ≡ Sized s
+  pub fresh_measured : measured (fresh_table s t) ≡ Some s
   unfolding fresh_table
   fresh_measured = measured_counts s _ lim (rw ended_length cleared_room)
 

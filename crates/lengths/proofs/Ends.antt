@@ -1,6 +1,6 @@
 -- An operation that ends was begun: a step that ends one leaves one less running, a begin at most one more, and a fresh table has none.
 use Prim.Native.Nat.{ℕ, zero, suc, ◌+◌, ◌≤◌, ◌<◌}
-use Rattle.std.specs.Prelude.{◌≡◌, ◌≢◌, List, Bool, cond, length, eqb}
+use Rattle.std.specs.Prelude.{◌≡◌, ◌≢◌, List, Bool, cond, length, eqb, Option, Some, None}
 use Rattle.std.proofs.Math.Path.{refl, ap}
 use Rattle.std.proofs.Common.{sym, ◌∙◌, zero-add, eqb-true, ne_eqb}
 use Rattle.std.proofs.Math.Bool.{true, false}
@@ -10,8 +10,6 @@ use Rattle.words.specs.declared.Queue.{Queue}
 use Rattle.words.specs.declared.Node.{Node}
 use Rattle.words.specs.declared.Sizes.{Sizes}
 use Rattle.words.specs.declared.Frame.{Frame}
-use Rattle.words.specs.declared.Measured.{Measured}
-use Rattle.words.specs.declared.Measured.TheVariants.{Sized, Unfit}
 use Rattle.words.specs.declared.Word.TheVariants.{Next, Use}
 use Rattle.words.specs.Layout.{level, node, limits, words, measured, has, rd, wr, frame_of, put_frame, no_frame}
 use Rattle.words.specs.Laws.{measured_fits, measured_wr, measured_put, has_use, wr_length, frame_wr, frame_same, frame_other}
@@ -120,7 +118,7 @@ refused_balanced : (s : Sizes) (t : List ℕ) (r : ℕ) → Balanced s t (refuse
 unfolding ends_in
 refused_balanced s t r = omega arith
 
-module _ (s : Sizes) (t : List ℕ) (l : Level) (f : Frame) (m : measured t ≡ Sized s) (in_l : l.0 < s.levels)
+module _ (s : Sizes) (t : List ℕ) (l : Level) (f : Frame) (m : measured t ≡ Some s) (in_l : l.0 < s.levels)
     (op_is : f.op ≡ (frame_of s t l).op) (op_runs : f.op ≢ 0) where
   -- after an access that left every frame
   settled_balanced : (u : List ℕ) (a : After) → ((k : Level) → frame_of s u k ≡ frame_of s t k) → words s ≤ length u
@@ -165,7 +163,7 @@ module _ (s : Sizes) (t : List ℕ) (l : Level) (f : Frame) (m : measured t ≡ 
       by false e = refused_balanced s t 10
   performed_balanced nothing alike = refused_balanced s t 10
 
-step_balanced : (s : Sizes) (t : List ℕ) → measured t ≡ Sized s → Balanced s t (step_sized s t)
+step_balanced : (s : Sizes) (t : List ℕ) → measured t ≡ Some s → Balanced s t (step_sized s t)
 unfolding step_sized step_served step_frame counted
 step_balanced s t m = by (serving s t s.levels) refl
   where
@@ -182,7 +180,7 @@ step_balanced s t m = by (serving s t s.levels) refl
             (row (point_of f.point) f l (level s.levels)) (kind_kept (point_of f.point) f l (level s.levels))
         on false = refused_balanced s t 10
 
-running_is : (s : Sizes) (t : List ℕ) → measured t ≡ Sized s → running t ≡ running_below s t s.levels
+running_is : (s : Sizes) (t : List ℕ) → measured t ≡ Some s → running t ≡ running_below s t s.levels
 unfolding running running_measured
 running_is s t m = rw m
 
@@ -190,9 +188,9 @@ pub step_ends : (t : List ℕ) → ends_in (step_of t).0 + running (step_of t).1
 unfolding step_of step_measured ends_in
 step_ends t = by (measured t) refl
   where
-    by : (x : Measured) → measured t ≡ x → ends_in (step_measured t x).0 + running (step_measured t x).1 ≡ running t
-    by Unfit m = zero-add (running t)
-    by (Sized s) m =
+    by : (x : Option Sizes) → measured t ≡ x → ends_in (step_measured t x).0 + running (step_measured t x).1 ≡ running t
+    by None m = zero-add (running t)
+    by (Some s) m =
         let after = running_is s (step_sized s t).1 (step_kept s t m).sized in
         let before = running_is s t m in
         let balanced = step_balanced s t m in
@@ -200,7 +198,7 @@ step_ends t = by (measured t) refl
 
 -- ---- a begin
 
-begun_most : (s : Sizes) (t : List ℕ) (l : Level) (g : Frame) → measured t ≡ Sized s → l.0 < s.levels
+begun_most : (s : Sizes) (t : List ℕ) (l : Level) (g : Frame) → measured t ≡ Some s → l.0 < s.levels
     → running (put_frame s t l g) ≤ running t + 1
 begun_most s t l g m in_l =
     let put = put_counts s t l g s.levels (measured_fits t s m).room in_l in_l in
@@ -222,9 +220,9 @@ pub enqueue_most : (t : List ℕ) (l : Level) (q : Queue) (n : Node) → running
 unfolding enqueue_of enqueue_measured enqueue_sized
 enqueue_most t l q n = by (measured t) refl
   where
-    by : (x : Measured) → measured t ≡ x → running (enqueue_measured t l q n x).1 ≤ running t + 1
-    by Unfit m = omega arith
-    by (Sized s) m = unless_most (enqueue_why s t l q n) t _ (λ why. on (enqueues s t l q n why))
+    by : (x : Option Sizes) → measured t ≡ x → running (enqueue_measured t l q n x).1 ≤ running t + 1
+    by None m = omega arith
+    by (Some s) m = unless_most (enqueue_why s t l q n) t _ (λ why. on (enqueues s t l q n why))
       where
         g : Frame
         g = begun 1 E1 q n
@@ -245,9 +243,9 @@ pub dequeue_most : (t : List ℕ) (l : Level) (q : Queue) → running (dequeue_o
 unfolding dequeue_of dequeue_measured dequeue_sized
 dequeue_most t l q = by (measured t) refl
   where
-    by : (x : Measured) → measured t ≡ x → running (dequeue_measured t l q x).1 ≤ running t + 1
-    by Unfit m = omega arith
-    by (Sized s) m =
+    by : (x : Option Sizes) → measured t ≡ x → running (dequeue_measured t l q x).1 ≤ running t + 1
+    by None m = omega arith
+    by (Some s) m =
         unless_most (dequeue_why s t l q) t _ (λ why. begun_most s t l (begun 2 D1 q (node 0)) m (dequeues s t l q why).has_l)
 
 -- ---- a fresh table

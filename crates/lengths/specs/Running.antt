@@ -1,9 +1,7 @@
 -- How many operations run, and how many a step ends.
-use Rattle.std.specs.Prelude.{ℕ, zero, suc, ◌+◌, List, cond, eqb}
+use Rattle.std.specs.Prelude.{ℕ, zero, suc, ◌+◌, List, cond, eqb, Option, Some, None}
 use Rattle.words.specs.declared.Sizes.{Sizes}
 use Rattle.words.specs.declared.Frame.{Frame}
-use Rattle.words.specs.declared.Measured.{Measured}
-use Rattle.words.specs.declared.Measured.TheVariants.{Sized, Unfit}
 use Rattle.words.specs.Layout.{level, measured, frame_of}
 use Rattle.answers.specs.Said.{Said, refused, says, Step, going_on, ended}
 
@@ -16,9 +14,9 @@ unfoldable pub running_below : Sizes → List ℕ → ℕ → ℕ
 running_below s t zero = 0
 running_below s t (suc n) = active (frame_of s t (level n)) + running_below s t n
 
-unfoldable pub running_measured : List ℕ → Measured → ℕ
-running_measured t Unfit = 0
-running_measured t (Sized s) = running_below s t s.levels
+unfoldable pub running_measured : List ℕ → Option Sizes → ℕ
+running_measured t None = 0
+running_measured t (Some s) = running_below s t s.levels
 
 unfoldable pub running : List ℕ → ℕ
 running t = running_measured t (measured t)

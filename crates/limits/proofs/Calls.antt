@@ -1,5 +1,6 @@
 -- Every accepted call keeps the cost facts, and is a move of the frames: what it begins has taken no step, every step adds 1 to the steps
 -- word of the level that is served, and an end says that word, within the bounds.
+use Rattle.std.specs.Prelude.{Some}
 use Prim.Native.Nat.{ℕ, zero, suc, ◌+◌, ◌*◌, ◌≤◌, ◌<◌}
 use mathlib.Core.Path.{◌≡◌, refl, sym, ap, ◌∙◌, subst}
 use mathlib.Core.Logic.{◌≢◌}
@@ -11,7 +12,6 @@ use lib.Dec.{eqb, ltb}
 use borrow.Author.Tests.{ltb-true, ltb-false}
 use Rattle.words.specs.declared.Level.{Level}
 use Rattle.words.specs.declared.Sizes.{Sizes}
-use Rattle.words.specs.declared.Measured.TheVariants.{Sized}
 use Rattle.words.specs.declared.Queue.{Queue}
 use Rattle.words.specs.declared.Node.{Node}
 use Rattle.words.specs.declared.Frame.{Frame}
@@ -46,7 +46,7 @@ use Rattle.limits.proofs.Move.{ServedAt, GoesOn, EndsAs, Move, begun as is_begun
 
 -- what holds of a table on the way, where no queue has more than v nodes
 pub record Good (s : Sizes) (v : ℕ) (t : List ℕ) : Type 0 where
-  pub sized : measured t ≡ Sized s
+  pub sized : measured t ≡ Some s
   pub fronts : ℕ → List ℕ
   pub world : World s (state_of s t) fronts
   pub paid : AllPaid s v (state_of s t)

@@ -1,13 +1,11 @@
 -- A listing gives no more nodes than its room has.
-use Rattle.std.specs.Prelude.{ℕ, ◌≤◌, refl, List, ◌++◌, Bool, true, false, cond, ltb}
+use Rattle.std.specs.Prelude.{ℕ, ◌≤◌, refl, List, ◌++◌, Bool, true, false, cond, ltb, Option, Some, None}
 use Rattle.std.proofs.Math.Path.{◌≡◌, ap}
-use Rattle.std.proofs.Math.Option.{Option, none, some}
 use Rattle.std.proofs.Common.{arith}
 use Rattle.std.proofs.Math.ListN.{length, drop, length-append}
 use borrow.Author.Tests.{ltb-false}
+use Rattle.words.specs.declared.Sizes.{Sizes}
 use Rattle.words.specs.declared.Queue.{Queue}
-use Rattle.words.specs.declared.Measured.{Measured}
-use Rattle.words.specs.declared.Measured.TheVariants.{Sized, Unfit}
 use Rattle.words.specs.Layout.{measured}
 use Rattle.answers.specs.Said.{Said, refused, says}
 use Rattle.conditions.specs.Conditions.{no_queue, unquiet}
@@ -26,9 +24,9 @@ module _ (n : ℕ) (after room : List ℕ) where
 
   listed_count : (o : Option (List ℕ)) → listed o room ≡ (says n, after) → InBoth
   unfolding listed
-  listed_count none e =
+  listed_count None e =
       let f : ◌≡◌ {A = Said ℕ} (refused 10) (says n) = ap (λ q. q.0) e in let z : ◌≡◌ {A = ℕ} 0 1 = cc in absurd (omega arith)
-  listed_count (some ns) e =
+  listed_count (Some ns) e =
       not_refused (ltb (length room) (length ns)) 12 _
       (λ b g.
       let f : says (length ns) ≡ says n = ap (λ q. q.0) g in
@@ -42,9 +40,9 @@ pub listing_count : (t : List ℕ) (q : Queue) (room after : List ℕ) (n : ℕ)
 unfolding listing_of listing_measured listing_sized
 listing_count t q room after n h = by (measured t) h
   where
-    by : (m : Measured) → listing_measured t q room m ≡ (says n, after) → (n ≤ length room) × (n ≤ length after)
-    by Unfit e = let f : ◌≡◌ {A = Said ℕ} (refused 1) (says n) = ap (λ q. q.0) e in let z : ◌≡◌ {A = ℕ} 0 1 = cc in absurd (omega arith)
-    by (Sized s) e =
+    by : (m : Option Sizes) → listing_measured t q room m ≡ (says n, after) → (n ≤ length room) × (n ≤ length after)
+    by None e = let f : ◌≡◌ {A = Said ℕ} (refused 1) (says n) = ap (λ q. q.0) e in let z : ◌≡◌ {A = ℕ} 0 1 = cc in absurd (omega arith)
+    by (Some s) e =
         not_refused n after room (no_queue s q) 4 _
         (λ _. not_refused n after room (unquiet s t q) 11 _ (λ _. listed_count n after room (nodes_of s t q)))
         e

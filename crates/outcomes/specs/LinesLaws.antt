@@ -8,7 +8,7 @@ use borrow.Author.Tests.{lt-ltb, le-ltb, eq-eqb, ne_eqb}
 use Rattle.loglines.specs.declared.Pen.{Pen}
 use Rattle.loglines.specs.Ink.{Page, page, ink, Writes}
 use Rattle.loglines.specs.Laws.{ink_then}
-use Rattle.outcomes.specs.declared.Written.{Written}
+use Rattle.answers.specs.declared.Refusal.{Refusal}
 use Rattle.outcomes.specs.Outcomes.{mark}
 use Rattle.outcomes.specs.Tallies.{known_in}
 use Rattle.outcomes.specs.Lines.{
@@ -130,9 +130,9 @@ pub lines_start : (x : Page) (ts : List ℕ) (n queues : ℕ)
     → ink x (outcome_lines n ts 0 queues) ≡ ink x (outcome_lines (n - 0) ts 0 queues)
 lines_start x ts n queues = let e : n ≡ n - 0 = omega arith in ap (λ (r : ℕ). ink x (outcome_lines r ts 0 queues)) e
 
-pub lines_written : (room after ts : List ℕ) (queues count n : ℕ) (x y : Page) (pen : Option ℕ) (r : Written) → n ≡ known_in ts
+pub lines_written : (room after ts : List ℕ) (queues count n : ℕ) (x y : Page) (pen : Option ℕ) (r : Result ℕ Refusal) → n ≡ known_in ts
     → ink (Some 0, room) (count_line count) ≡ x → ink x (outcome_lines n ts 0 queues) ≡ y → ink y (others_line (get_or ts 1 0)) ≡ (pen, after)
     → r ≡ written_of pen → put_lines room (counted_text count ts queues) ≡ (r, after)
 unfolding put_lines counted_text outcomes_text
 lines_written room after ts queues count n x y pen r k d e f w =
-    ap pen_says (ink_then (Some 0, room) _ _ d (ink_then x _ _ (rw k at e) f)) ∙ ap (λ (v : Written). (v, after)) (sym w)
+    ap pen_says (ink_then (Some 0, room) _ _ d (ink_then x _ _ (rw k at e) f)) ∙ ap (λ (v : Result ℕ Refusal). (v, after)) (sym w)

@@ -1,6 +1,6 @@
 -- What the proofs of the replay cite.
 use Prim.Native.Nat.{ℕ, zero, suc, ◌+◌, ◌-◌, ◌≤◌, ◌<◌}
-use Rattle.std.specs.Prelude.{◌≡◌, refl, Bool, true, false, length, get_or, take, replicate, ltb}
+use Rattle.std.specs.Prelude.{◌≡◌, refl, Bool, true, false, length, get_or, take, replicate, ltb, None}
 use Rattle.std.proofs.Math.Path.{ap}
 use Rattle.std.proofs.Common.{◌∙◌, add-one, drop_of_length-le, get_or-take, le-ltb}
 use mathlib.Core.List.{List, [], ◌∷◌, ◌++◌}
@@ -8,12 +8,11 @@ use native.Mathlib.Omega.{arith}
 use Rattle.std.proofs.lemmas.List.{length-replicate}
 use Rattle.words.specs.declared.Queue.{Queue}
 use Rattle.words.specs.declared.Sizes.{Sizes}
-use Rattle.words.specs.declared.Measured.TheVariants.{Unfit}
 use Rattle.words.specs.Layout.{limits, measured, words}
 use Rattle.answers.specs.declared.End.{End}
-use Rattle.answers.specs.declared.Ran.{Ran}
-use Rattle.answers.specs.declared.Ran.TheVariants.{Ended, Spent, Idle, Damaged, Refused}
-use Rattle.answers.specs.Said.{Said, refused, says, Run, after, an_end, run_says}
+use Rattle.answers.specs.declared.Why.{Why}
+use Rattle.answers.specs.declared.Why.TheVariants.{Ended, Spent, Idle, Damaged}
+use Rattle.answers.specs.Said.{Said, refused, says, Run, after, an_end, why_says}
 use Rattle.steps.specs.Run.{run_measured, run_of}
 use Rattle.fresh.specs.Fresh.{fresh_table, fresh_of}
 use Rattle.asks.specs.Listing.{listing_of}
@@ -68,14 +67,13 @@ module _ (x : Notes) (left : ℕ) (t : List ℕ) where
       ∙ into_none x u
 
   -- a run that ended no operation
-  pub steps_halted : (u : List ℕ) (r : Ran) → 0 < left → run_of left t ≡ (run_says r, u) → ((n : ℕ) (e : End) → r ≡ Ended n e → ⊥)
+  pub steps_halted : (u : List ℕ) (n : ℕ) (w : Why) → 0 < left → run_of left t ≡ (says (after n (why_says w)), u) → ((e : End) → w ≡ Ended e → ⊥)
       → into x (replay_steps left t) ≡ (x, u)
   unfolding ran_played
-  steps_halted u (Ended n e) h r f = absurd (f n e refl)
-  steps_halted u (Spent n) h r f = steps_stopped u _ h r refl
-  steps_halted u (Idle n) h r f = steps_stopped u _ h r refl
-  steps_halted u (Damaged n) h r f = steps_stopped u _ h r refl
-  steps_halted u (Refused n) h r f = steps_stopped u _ h r refl
+  steps_halted u n (Ended e) h r f = absurd (f e refl)
+  steps_halted u n Spent h r f = steps_stopped u _ h r refl
+  steps_halted u n Idle h r f = steps_stopped u _ h r refl
+  steps_halted u n Damaged h r f = steps_stopped u _ h r refl
 
 pub steps_none : (x : Notes) (left : ℕ) (t : List ℕ) → left ≤ 0 → into x (replay_steps left t) ≡ (x, t)
 unfolding steps_of
@@ -83,7 +81,7 @@ steps_none x zero t h = into_none x t
 steps_none x (suc n) t h = absurd (omega arith)
 
 -- no table
-pub steps_unfit : (x : Notes) (left : ℕ) (t : List ℕ) → measured t ≡ Unfit → into x (replay_steps left t) ≡ (x, t)
+pub steps_unfit : (x : Notes) (left : ℕ) (t : List ℕ) → measured t ≡ None → into x (replay_steps left t) ≡ (x, t)
 unfolding run_of run_measured ran_played
 steps_unfit x zero t m = steps_none x 0 t (omega arith)
 steps_unfit x (suc left) t m = steps_stopped x (suc left) t t (refused 1) (omega arith) (rw m) refl

@@ -3,10 +3,9 @@
 #![tactic(auto)]
 
 ghost use Rattle.std.specs.Prelude.{◌≡◌, true, ℕ, ◌+◌, ◌*◌, ◌%◌, ◌≤◌, ◌<◌, List, [], ◌∷◌, length, replicate, MatchOption, Some};
-ghost use Rattle.words.specs.declared.Measured.TheVariants.{Sized};
 ghost use Rattle.words.specs.Layout.{limits, measured, words};
 ghost use Rattle.fresh.specs.Fresh.{fresh_of};
-ghost use Rattle.loglines.specs.Ink.{ink, Writes};
+ghost use Rattle.loglines.specs.Ink.{Writes};
 ghost use Rattle.outcomes.specs.Notes.{note_one, note};
 ghost use Rattle.outcomes.specs.Outcomes.{
   into,
@@ -46,11 +45,11 @@ ghost use Rattle.outcomes.specs.Lines.{
   put_lines,
 };
 
-use answers::{Counted, End, Ran};
+use answers::{End, Refusal, Why};
 use entries::Schedule;
 use loglines::Pen;
 use std::marker::Model;
-use words::{Measured, Queue, Sizes};
+use words::{Queue, Sizes};
 
 // Ends what the dequeues returned, and each queue's nodes; no node has this number.
 const MARK: u16 = 65535;
@@ -63,13 +62,6 @@ pub const TALLIES: usize = 5122;
 
 // Room that is enough for the lines of any tallies.
 pub const LINES: usize = 262144;
-
-// How many bytes were written, or 12 where the room was too small.
-#[derive(Clone, Copy)]
-pub enum Written {
-    Bytes(usize),
-    Refused(u16),
-}
 
 // An outcome's first sixteen numbers: those that were noted, and zeros behind them.
 #[derive(Drop)]
@@ -119,16 +111,17 @@ impl Notes {
 
     // Takes so many steps of a table that was measured, and notes what was returned.
     fn replay_sized(&mut self, t: &mut [u16], s: Sizes, count: u16)
-        requires { measured t.old ≡ Sized s }
+        requires { measured t.old ≡ Some s }
         ensures { into self.old (replay_steps count t.old) ≡ (self.new, t.new) }
     {
         let mut left = count;
         while 0 < left {
-            let Ran::Ended(k, e) = steps::run_sized(t, s, left) else {
+            let ran = steps::run_sized(t, s, left);
+            let Why::Ended(e) = ran.why else {
                 return;
             };
             self.put_end(e);
-            left -= k;
+            left -= ran.steps;
         }
     }
 
@@ -136,7 +129,7 @@ impl Notes {
     fn replay_steps(&mut self, t: &mut [u16], count: u16)
         ensures { into self.old (replay_steps count t.old) ≡ (self.new, t.new) }
     {
-        if let Measured::Sized(s) = words::measure(t) {
+        if let Some(s) = words::measure(t) {
             self.replay_sized(t, s, count);
         }
     }
@@ -158,7 +151,7 @@ impl Notes {
         ensures { note self.old (queue_nodes t.now q.0) ≡ self.new }
     {
         let mut nodes = [0u16; 6];
-        if let Counted::Are(m) = asks::listing(t, q, &mut nodes) {
+        if let Ok(m) = asks::listing(t, q, &mut nodes) {
             for x in nodes.iter().take(usize::from(m)) {
                 self.put(*x);
             }
@@ -233,7 +226,8 @@ impl Trial<'_> {
             (fresh_of (sizes self.now.levels self.now.queues self.now.nodes) t.old).1)) ≡ result }
     {
         let mut notes = Notes::new();
-        fresh::fresh_table(t, self.levels, self.queues, self.nodes);
+        // of sizes that are refused the contract says nothing
+        let _ = fresh::fresh_table(t, self.levels, self.queues, self.nodes);
         notes.replay(t, schedule);
         notes.put(MARK);
         notes.put_queues(t, self.queues);
@@ -430,23 +424,14 @@ fn put_lines(pen: &mut Pen, count: u64, tallies: &[u64], queues: u16)
     put_others(pen, tallies[1]);
 }
 
-fn write_lines(count: u64, tallies: &[u64], queues: u16, room: &mut [u8]) -> Option<usize>
-    requires { 5122 ≤ length tallies.now }
-    ensures { ink (Some 0, room.old) (counted_text count tallies.now queues) ≡ (result, room.new) }
-{
-    let mut pen = Pen { room, at: Some(0) };
-    put_lines(&mut pen, count, tallies, queues);
-    pen.at
-}
-
-// How many schedules there are, then a line for each outcome in the order of their first schedules, and one for the others.
+// How many schedules there are, then a line for each outcome in the order of their first schedules, and one for the others: how many bytes
+// they have, or that the room is too small.
 #[tactic(auto, unfolding(crate::specs::Lines::put_lines))]
-pub fn write_outcomes(count: u64, tallies: &[u64], queues: u16, room: &mut [u8]) -> Written
+pub fn write_outcomes(count: u64, tallies: &[u64], queues: u16, room: &mut [u8]) -> Result<usize, Refusal>
     requires { 5122 ≤ length tallies.now }
     ensures { put_lines room.old (counted_text count tallies.now queues) ≡ (result, room.new) }
 {
-    match write_lines(count, tallies, queues, room) {
-        Some(n) => Written::Bytes(n),
-        None => Written::Refused(12),
-    }
+    let mut pen = Pen { room, at: Some(0) };
+    put_lines(&mut pen, count, tallies, queues);
+    pen.at.ok_or(Refusal::Room)
 }

@@ -1,13 +1,11 @@
 -- A run is so many single steps: what is played by single steps can be played by runs.
 use Prim.Native.Nat.{ℕ, zero, suc, ◌+◌, ◌-◌, ◌<◌}
-use Rattle.std.specs.Prelude.{◌≡◌, ◌⊎◌, cond, eqb}
+use Rattle.std.specs.Prelude.{◌≡◌, ◌⊎◌, cond, eqb, Option, Some, None}
 use Rattle.std.proofs.Math.Path.{refl, ap}
 use Rattle.std.proofs.Common.{◌∙◌, inl, inr, zero-add}
 use mathlib.Core.List.{List, []}
 use native.Mathlib.Omega.{arith}
 use Rattle.words.specs.declared.Sizes.{Sizes}
-use Rattle.words.specs.declared.Measured.{Measured}
-use Rattle.words.specs.declared.Measured.TheVariants.{Sized, Unfit}
 use Rattle.words.specs.Layout.{measured}
 use Rattle.answers.specs.declared.End.{End}
 use Rattle.answers.specs.Said.{Said, refused, says, going_on, ended, Run, after, an_end, spent, nothing_runs, refusal_10}
@@ -25,14 +23,14 @@ ran_played line all (says (after n nothing_runs), t) = ([], (refused 9, t))
 ran_played line all (says (after n refusal_10), t) = ([], (refused 10, t))
 
 module _ (line : End → List ℕ) (s : Sizes) where
-  run_played : (left n : ℕ) (t : List ℕ) → measured t ≡ Sized s → steps_of line left t ≡ ran_played line (n + left) (run_from s left n t)
+  run_played : (left n : ℕ) (t : List ℕ) → measured t ≡ Some s → steps_of line left t ≡ ran_played line (n + left) (run_from s left n t)
   unfolding steps_of go_on run_from ran_on ran_played
   run_played zero n t m = refl
   run_played (suc left) n t m =
       ap (go_on line (steps_of line left)) (step_is s t m) ∙ by (step_sized s t) (step_kept s t m) (run_played left (n + 1))
     where
       by : (x : Out) → Kept s x
-          → ((u : List ℕ) → measured u ≡ Sized s → steps_of line left u ≡ ran_played line (n + 1 + left) (run_from s left (n + 1) u))
+          → ((u : List ℕ) → measured u ≡ Some s → steps_of line left u ≡ ran_played line (n + 1 + left) (run_from s left (n + 1) u))
           → go_on line (steps_of line left) x ≡ ran_played line (n + suc left) (ran_on n (run_from s left) x.0 x.1)
       by (says going_on, u) k ih =
           let e : n + 1 + left ≡ n + suc left = omega arith in rw e at (ih u k.sized)
@@ -50,6 +48,6 @@ unfolding run_of run_measured steps_of go_on step_of step_measured ran_played
 steps_run line zero t h = absurd (omega arith)
 steps_run line (suc n) t h = by (measured t) refl
   where
-    by : (x : Measured) → measured t ≡ x → steps_of line (suc n) t ≡ ran_played line (suc n) (run_measured (suc n) t x)
-    by Unfit m = rw m
-    by (Sized s) m = rw zero-add at (run_played line s (suc n) 0 t m)
+    by : (x : Option Sizes) → measured t ≡ x → steps_of line (suc n) t ≡ ran_played line (suc n) (run_measured (suc n) t x)
+    by None m = rw m
+    by (Some s) m = rw zero-add at (run_played line s (suc n) 0 t m)

@@ -4,7 +4,7 @@ use Prim.Native.Nat.{ℕ, zero, suc, ◌≤◌, ◌<◌}
 use Rattle.std.proofs.Math.Path.{◌≡◌, refl, ap, sym}
 use Rattle.std.proofs.Common.{◌∙◌, arith}
 use mathlib.Core.List.{List}
-use Rattle.std.specs.Prelude.{Bool, length}
+use Rattle.std.specs.Prelude.{Bool, length, Option, Some, None}
 use Rattle.std.proofs.Math.Bool.{true, false, cond}
 use Rattle.std.proofs.Math.Dec.{eqb}
 use borrow.Author.Tests.{eqb-true, eqb-false}
@@ -21,11 +21,8 @@ use Rattle.table.specs.Points.{point_of}
 use Rattle.table.specs.Frames.{counted}
 use Rattle.table.specs.Table.{row}
 use Rattle.table.specs.Turn.{turned}
+use Rattle.table.specs.declared.After.{After}
 use Rattle.table.specs.declared.After.TheVariants.{Go, Done}
-use Rattle.table.specs.declared.Turned.{Turned}
-use Rattle.table.specs.declared.Turned.TheVariants.{Next, Stray}
-use Rattle.steps.specs.declared.Served.{Served}
-use Rattle.steps.specs.declared.Served.TheVariants.{At, Nobody}
 use Rattle.steps.specs.Step.{Out, serving, sound, end_of, step_served, step_sized}
 use Rattle.steps.specs.Held.{Held, Going, Ended, Damaged, followed, follow, held, back}
 use Rattle.steps.proofs.Laws.{step_held, serving_below}
@@ -45,30 +42,30 @@ held_level : (s : Sizes) (t : List ℕ) (l : Level) (f : Frame) (d : End) → (h
 unfolding held followed
 held_level s t l f d e = by (sound s f) e
   where
-    x : Turned × List ℕ
+    x : Option After × List ℕ
     x = turned s t (row (point_of f.point) f l (level s.levels))
 
-    on : (y : Turned) → followed l f y ≡ Ended d → d.level ≡ l
-    on (Next (Go g)) h = let w : ◌≡◌ {A = ℕ} 0 1 = cc in absurd (omega arith)
-    on (Next (Done n)) h = let same : end_of l f n ≡ d = cc in ap (λ (i : End). i.level) (sym same)
-    on Stray h = let w : ◌≡◌ {A = ℕ} 0 1 = cc in absurd (omega arith)
+    on : (y : Option After) → followed l f y ≡ Ended d → d.level ≡ l
+    on (Some (Go g)) h = let w : ◌≡◌ {A = ℕ} 0 1 = cc in absurd (omega arith)
+    on (Some (Done n)) h = let same : end_of l f n ≡ d = cc in ap (λ (i : End). i.level) (sym same)
+    on None h = let w : ◌≡◌ {A = ℕ} 0 1 = cc in absurd (omega arith)
 
     by : (b : Bool) → (cond {A = Held × List ℕ} b (follow l f x) (Damaged, t)).0 ≡ Ended d → d.level ≡ l
     by true h = on x.0 h
     by false h = let w : ◌≡◌ {A = ℕ} 0 1 = cc in absurd (omega arith)
 
 module _ (s : Sizes) (t : List ℕ) (room : words s ≤ length t) where
-  nobody_refused : (x : Out) → serving s t s.levels ≡ Nobody → step_sized s t ≡ x → x ≡ (refused 9, t)
+  nobody_refused : (x : Out) → serving s t s.levels ≡ None → step_sized s t ≡ x → x ≡ (refused 9, t)
   unfolding step_sized step_served
   nobody_refused x z e = sym e ∙ rw z refl
 
   -- the step of the level that is served, its frame held beside the table
-  pub served_step : (l : Level) → serving s t s.levels ≡ At l
+  pub served_step : (l : Level) → serving s t s.levels ≡ Some l
       → step_sized s t ≡ back s l (frame_of s t l) (held s t l (counted (frame_of s t l))).0 (held s t l (counted (frame_of s t l))).1
   served_step l z =
       let own : put_frame s t l (frame_of s t l) ≡ t = put_own s t l in
       let below = serving_below s t s.levels l z in
-      let served : serving s (put_frame s t l (frame_of s t l)) s.levels ≡ At l = ap (λ (x : List ℕ). serving s x s.levels) own ∙ z in
+      let served : serving s (put_frame s t l (frame_of s t l)) s.levels ≡ Some l = ap (λ (x : List ℕ). serving s x s.levels) own ∙ z in
       ap (step_sized s) (sym own) ∙ step_held s t l (frame_of s t l) room below served
 
   -- ---- a step that goes on
@@ -92,13 +89,13 @@ module _ (s : Sizes) (t : List ℕ) (room : words s ≤ length t) where
   unfolding back
   step_steady u e = by (serving s t s.levels) refl
     where
-      by : (v : Served) → serving s t s.levels ≡ v → Steady s t u
-      by Nobody z =
+      by : (v : Option Level) → serving s t s.levels ≡ v → Steady s t u
+      by None z =
           let no = nobody_refused (says going_on, u) z e in
           let said : says going_on ≡ refused 9 = ap (λ (x : Out). x.0) no in
           let w : ◌≡◌ {A = ℕ} 0 1 = cc in
           absurd (omega arith)
-      by (At l) z = on (held s t l (counted (frame_of s t l))).0 refl (sym (served_step l z) ∙ e)
+      by (Some l) z = on (held s t l (counted (frame_of s t l))).0 refl (sym (served_step l z) ∙ e)
         where
           v : List ℕ
           v = (held s t l (counted (frame_of s t l))).1
@@ -121,14 +118,14 @@ module _ (s : Sizes) (t : List ℕ) (room : words s ≤ length t) where
   -- ---- a step that ends an operation
 
   -- levels from l on are idle, or the one at l that just ended
-  serving_down : (l : Level) (u : List ℕ) (n : ℕ) → serving s t n ≡ At l → ((k : Level) → l.0 < k.0 → frame_of s u k ≡ frame_of s t k)
+  serving_down : (l : Level) (u : List ℕ) (n : ℕ) → serving s t n ≡ Some l → ((k : Level) → l.0 < k.0 → frame_of s u k ≡ frame_of s t k)
       → (frame_of s u l).op ≡ 0 → serving s u n ≡ serving s u l.0
   unfolding serving
   serving_down l u zero z same o = let w : ◌≡◌ {A = ℕ} 0 1 = cc in absurd (omega arith)
   serving_down l u (suc n) z same o = by (eqb (frame_of s t (level n)).op 0) refl (λ k. serving_down l u n k same o) z
     where
-      by : (b : Bool) → eqb (frame_of s t (level n)).op 0 ≡ b → (serving s t n ≡ At l → serving s u n ≡ serving s u l.0)
-          → cond b (serving s t n) (At (level n)) ≡ At l
+      by : (b : Bool) → eqb (frame_of s t (level n)).op 0 ≡ b → (serving s t n ≡ Some l → serving s u n ≡ serving s u l.0)
+          → cond b (serving s t n) (Some (level n)) ≡ Some l
           → serving s u (suc n) ≡ serving s u l.0
       by true i ih k =
           let below = serving_below s t n l k in
@@ -139,7 +136,7 @@ module _ (s : Sizes) (t : List ℕ) (room : words s ≤ length t) where
           let idle : (frame_of s u (level n)).op ≡ 0 = rw here o in
           rw idle (ap (λ (x : Level). serving s u x.0) here)
 
-  put_down : (l : Level) (v : List ℕ) → serving s t s.levels ≡ At l → Left s t room v
+  put_down : (l : Level) (v : List ℕ) → serving s t s.levels ≡ Some l → Left s t room v
       → serving s (put_frame s v l no_frame) s.levels ≡ serving s (put_frame s v l no_frame) l.0
   put_down l v z left =
       let below = serving_below s t s.levels l z in
@@ -152,13 +149,13 @@ module _ (s : Sizes) (t : List ℕ) (room : words s ≤ length t) where
   unfolding back
   step_down e u eq = by (serving s t s.levels) refl
     where
-      by : (v : Served) → serving s t s.levels ≡ v → Down s e u
-      by Nobody z =
+      by : (v : Option Level) → serving s t s.levels ≡ v → Down s e u
+      by None z =
           let no = nobody_refused (says (ended e), u) z eq in
           let said : says (ended e) ≡ refused 9 = ap (λ (x : Out). x.0) no in
           let w : ◌≡◌ {A = ℕ} 0 1 = cc in
           absurd (omega arith)
-      by (At l) z = on (held s t l (counted (frame_of s t l))).0 refl (sym (served_step l z) ∙ eq)
+      by (Some l) z = on (held s t l (counted (frame_of s t l))).0 refl (sym (served_step l z) ∙ eq)
         where
           v : List ℕ
           v = (held s t l (counted (frame_of s t l))).1

@@ -1,6 +1,6 @@
 -- What a run of the level that is served leaves: every other level's frame; its own op where it goes on, and 0 where it ended.
 use Prim.Native.Nat.{ℕ, zero, suc, ◌+◌, ◌≤◌}
-use Rattle.std.specs.Prelude.{◌≡◌, refl, ◌≢◌, Bool, cond, eqb}
+use Rattle.std.specs.Prelude.{◌≡◌, refl, ◌≢◌, Bool, cond, eqb, Some}
 use Rattle.std.proofs.Math.Path.{ap}
 use Rattle.std.proofs.Common.{◌∙◌, arith}
 use mathlib.Core.List.{List}
@@ -13,7 +13,6 @@ use Rattle.words.specs.Layout.{words, frame_of, put_frame, no_frame}
 use Rattle.words.specs.Laws.{frame_same, frame_other, put_length}
 use Rattle.answers.specs.Said.{Said, refused, says, Step, going_on, ended, Run, after, an_end, spent, nothing_runs, refusal_10}
 use Rattle.table.specs.Frames.{counted}
-use Rattle.steps.specs.declared.Served.TheVariants.{At}
 use Rattle.steps.specs.Step.{Out, serving, step_sized}
 use Rattle.steps.specs.Run.{ran_on, run_from}
 use Rattle.steps.specs.Held.{Held, Going, Ended, Damaged, held, back}
@@ -37,7 +36,7 @@ module _ (s : Sizes) (l : Level) where
 
   -- the level's own frame, by what its step says
   abbrev Own : Said Step → List ℕ → Type 0
-  Own (says going_on) u = serving s u s.levels ≡ At l
+  Own (says going_on) u = serving s u s.levels ≡ Some l
   Own (says (ended e)) u = (frame_of s u l).op ≡ 0
   Own (refused r) u = Unit
 
@@ -45,7 +44,7 @@ module _ (s : Sizes) (l : Level) where
     aside : Aside t x.1
     own : Own x.0 x.1
 
-  module _ (t : List ℕ) (room : words s ≤ length t) (at_l : serving s t s.levels ≡ At l) where
+  module _ (t : List ℕ) (room : words s ≤ length t) (at_l : serving s t s.levels ≡ Some l) where
     abbrev now : Frame
     now = frame_of s t l
 
@@ -62,7 +61,7 @@ module _ (s : Sizes) (l : Level) where
           others = λ k ne. frame_other s after_access l g k ne ∙ left.frames k;
         }
 
-    going_serves : (g : Frame) → (held s t l (counted now)).0 ≡ Going g → serving s (put_frame s after_access l g) s.levels ≡ At l
+    going_serves : (g : Frame) → (held s t l (counted now)).0 ≡ Going g → serving s (put_frame s after_access l g) s.levels ≡ Some l
     unfolding back
     going_serves g i =
         let went : step_sized s t ≡ (says going_on, put_frame s after_access l g) =
@@ -87,7 +86,7 @@ module _ (s : Sizes) (l : Level) where
   abbrev OwnAfter : Said Run → List ℕ → Type 0
   OwnAfter (refused r) u = Unit
   OwnAfter (says (after n (an_end e))) u = (frame_of s u l).op ≡ 0
-  OwnAfter (says (after n spent)) u = serving s u s.levels ≡ At l
+  OwnAfter (says (after n spent)) u = serving s u s.levels ≡ Some l
   OwnAfter (says (after n nothing_runs)) u = Unit
   OwnAfter (says (after n refusal_10)) u = Unit
 
@@ -95,13 +94,13 @@ module _ (s : Sizes) (l : Level) where
     pub aside : Aside t x.1
     pub own : OwnAfter x.0 x.1
 
-  run_leaves : (budget n : ℕ) (t : List ℕ) → words s ≤ length t → serving s t s.levels ≡ At l → RanAside t (run_from s budget n t)
+  run_leaves : (budget n : ℕ) (t : List ℕ) → words s ≤ length t → serving s t s.levels ≡ Some l → RanAside t (run_from s budget n t)
   unfolding run_from ran_on
   run_leaves zero n t room at_l = record { aside = aside_same t; own = at_l }
   run_leaves (suc budget) n t room at_l = by (step_sized s t) (step_leaves t room at_l) (run_leaves budget (n + 1))
     where
       by : (x : Out) → Leaves t x
-          → ((u : List ℕ) → words s ≤ length u → serving s u s.levels ≡ At l → RanAside u (run_from s budget (n + 1) u))
+          → ((u : List ℕ) → words s ≤ length u → serving s u s.levels ≡ Some l → RanAside u (run_from s budget (n + 1) u))
           → RanAside t (ran_on n (run_from s budget) x.0 x.1)
       by (says going_on, u) here on =
           let rest = on u (omega (arith, here.aside.long)) here.own in
@@ -113,6 +112,6 @@ module _ (s : Sizes) (l : Level) where
           why true = record { aside = here.aside; own = tt }
           why false = record { aside = here.aside; own = tt }
 
-  pub ran_aside : (budget : ℕ) (t u : List ℕ) (x : Said Run) → words s ≤ length t → serving s t s.levels ≡ At l
+  pub ran_aside : (budget : ℕ) (t u : List ℕ) (x : Said Run) → words s ≤ length t → serving s t s.levels ≡ Some l
       → run_from s budget 0 t ≡ (x, u) → RanAside t (x, u)
   ran_aside budget t u x room at_l e = rw e at (run_leaves budget 0 t room at_l)

@@ -3,17 +3,18 @@ use Prim.Native.Nat.{ℕ, zero, suc, ◌+◌, ◌-◌, ◌≤◌, ◌<◌}
 use Rattle.std.proofs.Math.Path.{◌≡◌, refl, ap}
 use Rattle.std.proofs.Common.{sym, ◌∙◌, zero-add}
 use mathlib.Core.List.{List}
-use Rattle.std.specs.Prelude.{Bool, cond, eqb}
+use Rattle.std.specs.Prelude.{Bool, cond, eqb, None}
 use Rattle.std.proofs.Math.Bool.{true, false}
 use native.Mathlib.Omega.{arith}
 use Rattle.words.specs.declared.Sizes.{Sizes}
 use Rattle.answers.specs.declared.End.{End}
-use Rattle.answers.specs.Said.{Said, refused, says, going_on, ended, Run, after, an_end, spent, nothing_runs, refusal_10}
-use Rattle.steps.specs.declared.Served.TheVariants.{Nobody}
+use Rattle.answers.specs.declared.Why as code
+use Rattle.answers.specs.declared.Why.TheVariants as variant
+use Rattle.answers.specs.Said.{Said, refused, says, going_on, ended, Why, why_says, Run, after, an_end, spent, nothing_runs, refusal_10}
 use Rattle.steps.specs.Step.{Out, serving, step_served, step_sized}
 use Rattle.steps.specs.Run.{ran_on, run_from}
 use Rattle.steps.specs.Whole.{whole_on, whole_from, ran_from}
-use Rattle.steps.proofs.Singly.{sized_ended_within}
+use Rattle.steps.proofs.Singly.{sized_within}
 
 -- n steps were taken, and then a run of what is left gave this
 unfoldable pub ran_by : Bool → Sizes → ℕ → ℕ → Said Run × List ℕ → Said Run × List ℕ
@@ -83,7 +84,7 @@ module _ (s : Sizes) where
   levels_none whole (suc left) n t h = absurd (omega arith)
 
   -- nothing runs
-  pub levels_idle : (whole : Bool) (left n : ℕ) (t : List ℕ) → 0 < left → serving s t s.levels ≡ Nobody
+  pub levels_idle : (whole : Bool) (left n : ℕ) (t : List ℕ) → 0 < left → serving s t s.levels ≡ None
       → ran_from whole s left n t ≡ (says (after n nothing_runs), t)
   unfolding run_from ran_on whole_from whole_on step_sized step_served
   levels_idle whole zero n t p h = absurd (omega arith)
@@ -94,17 +95,28 @@ module _ (s : Sizes) where
   pub levels_start : (whole : Bool) (all : ℕ) (t : List ℕ) → ran_from whole s all 0 t ≡ ran_from whole s all (all - all) t
   levels_start whole all t = let e : 0 ≡ all - all = omega arith in ap (λ (i : ℕ). ran_from whole s all i t) e
 
-  module _ (whole : Bool) (all left k : ℕ) (t u : List ℕ) (e : End) (low : left ≤ all)
-      (ran : run_from s left 0 t ≡ (says (after k (an_end e)), u)) where
-    taken : all - left + k ≡ all - (left - k)
-    taken = omega (arith, low, sized_ended_within s left k t u e ran)
+  module _ (whole : Bool) (all left k : ℕ) (t u : List ℕ) (low : left ≤ all) where
+    taken : (w : Why) → run_from s left 0 t ≡ (says (after k w), u) → all - left + k ≡ all - (left - k)
+    taken w ran = omega (arith, low, sized_within s left k t u w ran)
 
     -- on after an end
-    pub levels_more : whole ≡ true → ran_from whole s left (all - left) t ≡ ran_from whole s (left - k) (all - (left - k)) u
+    pub levels_more : (e : End) → run_from s left 0 t ≡ (says (after k (an_end e)), u) → whole ≡ true
+        → ran_from whole s left (all - left) t ≡ ran_from whole s (left - k) (all - (left - k)) u
     unfolding ran_by
-    levels_more y = levels_on whole left (all - left) t u _ ran ∙ rw y (ap (λ (i : ℕ). whole_from s (left - k) i u) taken)
+    levels_more e ran y =
+        levels_on whole left (all - left) t u _ ran ∙ rw y (ap (λ (i : ℕ). whole_from s (left - k) i u) (taken (an_end e) ran))
 
     -- or not
-    pub levels_end : whole ≡ false → ran_from whole s left (all - left) t ≡ (says (after (all - (left - k)) (an_end e)), u)
+    pub levels_stop : (w : code.Why) → ((e : End) → w ≡ variant.Ended e → whole ≡ false)
+        → run_from s left 0 t ≡ (says (after k (why_says w)), u)
+        → ran_from whole s left (all - left) t ≡ (says (after (all - (left - k)) (why_says w)), u)
     unfolding ran_by
-    levels_end y = levels_on whole left (all - left) t u _ ran ∙ rw y (ap (λ (i : ℕ). (says (after i (an_end e)), u)) taken)
+    levels_stop (variant.Ended e) stop ran =
+        levels_on whole left (all - left) t u _ ran
+        ∙ rw (stop e refl) (ap (λ (i : ℕ). (says (after i (an_end e)), u)) (taken (an_end e) ran))
+    levels_stop variant.Spent stop ran =
+        levels_on whole left (all - left) t u _ ran ∙ ap (λ (i : ℕ). (says (after i spent), u)) (taken spent ran)
+    levels_stop variant.Idle stop ran =
+        levels_on whole left (all - left) t u _ ran ∙ ap (λ (i : ℕ). (says (after i nothing_runs), u)) (taken nothing_runs ran)
+    levels_stop variant.Damaged stop ran =
+        levels_on whole left (all - left) t u _ ran ∙ ap (λ (i : ℕ). (says (after i refusal_10), u)) (taken refusal_10 ran)

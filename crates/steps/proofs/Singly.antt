@@ -2,7 +2,7 @@
 use Prim.Native.Nat.{ℕ, zero, suc, ◌+◌, ◌≤◌, ◌<◌}
 use Rattle.std.proofs.Math.Path.{◌≡◌, refl, ap}
 use Rattle.std.proofs.Common.{subst, inr}
-use Rattle.std.specs.Prelude.{◌⊎◌, Bool, cond, eqb}
+use Rattle.std.specs.Prelude.{◌⊎◌, Bool, cond, eqb, Option, Some, None}
 use Rattle.std.proofs.Math.Logic.{inl}
 use mathlib.Core.List.{List}
 use Rattle.std.proofs.Math.Bool.{true, false}
@@ -10,8 +10,6 @@ use native.Mathlib.Omega.{arith}
 use Rattle.words.specs.declared.Level.{Level}
 use Rattle.words.specs.declared.Sizes.{Sizes}
 use Rattle.words.specs.declared.Frame.{Frame}
-use Rattle.words.specs.declared.Measured.{Measured}
-use Rattle.words.specs.declared.Measured.TheVariants.{Sized, Unfit}
 use Rattle.words.specs.declared.Word.TheVariants.{Next, Use}
 use Rattle.words.specs.Layout.{measured, has, wr, no_frame}
 use Rattle.words.specs.Laws.{measured_wr, measured_put, measured_fits, has_use}
@@ -20,8 +18,6 @@ use Rattle.answers.specs.Said.{Said, refused, says, Step, going_on, ended, Why, 
 use Rattle.table.specs.Table.{Row, loads, stores, frees, nothing}
 use Rattle.table.specs.declared.After.{After}
 use Rattle.table.specs.declared.After.TheVariants.{Go, Done}
-use Rattle.steps.specs.declared.Served.{Served}
-use Rattle.steps.specs.declared.Served.TheVariants.{At, Nobody}
 use Rattle.steps.specs.Step.{Out, sound, settled, performed, step_frame, step_served, step_sized, step_measured, step_of}
 use Rattle.steps.specs.Run.{ran_on, run_from, run_measured, run_of}
 use Rattle.steps.specs.Held.{step_of_run}
@@ -34,24 +30,24 @@ Known (says x) = Unit
 
 -- a step keeps the table's sizes
 pub record Kept (s : Sizes) (x : Out) : Type 0 where
-  pub sized : measured x.1 ≡ Sized s
+  pub sized : measured x.1 ≡ Some s
   pub known : Known x.0
 
 module _ (s : Sizes) where
-  damaged : (t : List ℕ) → measured t ≡ Sized s → Kept s (refused 10, t)
+  damaged : (t : List ℕ) → measured t ≡ Some s → Kept s (refused 10, t)
   damaged t m = record { sized = m; known = inr refl }
 
-  settled_kept : (t : List ℕ) (l : Level) (f : Frame) (next : After) → measured t ≡ Sized s → Kept s (settled s t l f next)
+  settled_kept : (t : List ℕ) (l : Level) (f : Frame) (next : After) → measured t ≡ Some s → Kept s (settled s t l f next)
   unfolding settled
   settled_kept t l f (Go g) m = record { sized = measured_put s t l g m; known = tt }
   settled_kept t l f (Done n) m = record { sized = measured_put s t l no_frame m; known = tt }
 
   -- an access, where its word is one of the table's
-  access_kept : (b : Bool) (x : Out) (t : List ℕ) → measured t ≡ Sized s → (b ≡ true → Kept s x) → Kept s (cond b x (refused 10, t))
+  access_kept : (b : Bool) (x : Out) (t : List ℕ) → measured t ≡ Some s → (b ≡ true → Kept s x) → Kept s (cond b x (refused 10, t))
   access_kept true x t m k = k refl
   access_kept false x t m k = damaged t m
 
-  performed_kept : (t : List ℕ) (l : Level) (f : Frame) (r : Row) → measured t ≡ Sized s → Kept s (performed s t l f r)
+  performed_kept : (t : List ℕ) (l : Level) (f : Frame) (r : Row) → measured t ≡ Some s → Kept s (performed s t l f r)
   unfolding performed
   performed_kept t l f (loads w next) m = access_kept (has s w) _ t m (λ h. settled_kept t l f _ m)
   performed_kept t l f (stores w v next) m =
@@ -61,28 +57,28 @@ module _ (s : Sizes) where
       (λ h. settled_kept _ l f next (measured_wr s _ (Use n) 0 (measured_wr s t (Next n) 0 m h) (has_use s n h)))
   performed_kept t l f nothing m = damaged t m
 
-  served_kept : (t : List ℕ) (v : Served) → measured t ≡ Sized s → Kept s (step_served s t v)
+  served_kept : (t : List ℕ) (v : Option Level) → measured t ≡ Some s → Kept s (step_served s t v)
   unfolding step_served step_frame
-  served_kept t Nobody m = record { sized = m; known = inl refl }
-  served_kept t (At l) m = access_kept (sound s _) _ t m (λ h. performed_kept t l _ _ m)
+  served_kept t None m = record { sized = m; known = inl refl }
+  served_kept t (Some l) m = access_kept (sound s _) _ t m (λ h. performed_kept t l _ _ m)
 
-  pub step_kept : (t : List ℕ) → measured t ≡ Sized s → Kept s (step_sized s t)
+  pub step_kept : (t : List ℕ) → measured t ≡ Some s → Kept s (step_sized s t)
   unfolding step_sized
   step_kept t m = served_kept t _ m
 
-  pub stepped_kept : (t u : List ℕ) (x : Said Step) → measured t ≡ Sized s → step_sized s t ≡ (x, u) → measured u ≡ Sized s
+  pub stepped_kept : (t u : List ℕ) (x : Said Step) → measured t ≡ Some s → step_sized s t ≡ (x, u) → measured u ≡ Some s
   stepped_kept t u x m e = let at : (step_sized s t).1 ≡ u = ap (λ (y : Out). y.1) e in rw at at (step_kept t m).sized
 
-  pub step_is : (t : List ℕ) → measured t ≡ Sized s → step_of t ≡ step_sized s t
+  pub step_is : (t : List ℕ) → measured t ≡ Some s → step_of t ≡ step_sized s t
   unfolding step_of step_measured
   step_is t m = rw m
 
-pub run_is : (s : Sizes) (left : ℕ) (t : List ℕ) → measured t ≡ Sized s → run_of left t ≡ run_from s left 0 t
+pub run_is : (s : Sizes) (left : ℕ) (t : List ℕ) → measured t ≡ Some s → run_of left t ≡ run_from s left 0 t
 unfolding run_of run_measured
 run_is s left t m = rw m
 
 -- a step is a run of one
-pub step_by_run : (s : Sizes) (t u : List ℕ) (y : Said Run) → measured t ≡ Sized s → run_from s 1 0 t ≡ (y, u)
+pub step_by_run : (s : Sizes) (t u : List ℕ) (y : Said Run) → measured t ≡ Some s → run_from s 1 0 t ≡ (y, u)
     → step_sized s t ≡ (step_of_run y, u)
 unfolding run_from ran_on
 step_by_run s t u y m h = by (step_sized s t) (step_kept s t m).known h
@@ -151,23 +147,23 @@ module _ (s : Sizes) where
       subst (λ (x : Said Run × List ℕ). Within 0 left x.0) h (run_within left 0 t) in
       omega (arith, w)
 
-  run_kept : (left n : ℕ) (t : List ℕ) → measured t ≡ Sized s → measured (run_from s left n t).1 ≡ Sized s
+  run_kept : (left n : ℕ) (t : List ℕ) → measured t ≡ Some s → measured (run_from s left n t).1 ≡ Some s
   unfolding run_from ran_on
   run_kept zero n t m = m
   run_kept (suc left) n t m = by (step_sized s t) (step_kept s t m) (run_kept left (n + 1))
     where
-      by : (x : Out) → Kept s x → ((u : List ℕ) → measured u ≡ Sized s → measured (run_from s left (n + 1) u).1 ≡ Sized s)
-          → measured (ran_on n (run_from s left) x.0 x.1).1 ≡ Sized s
+      by : (x : Out) → Kept s x → ((u : List ℕ) → measured u ≡ Some s → measured (run_from s left (n + 1) u).1 ≡ Some s)
+          → measured (ran_on n (run_from s left) x.0 x.1).1 ≡ Some s
       by (says going_on, u) h ih = ih u h.sized
       by (says (ended e), u) h ih = h.sized
       by (refused r, u) h ih = h.sized
 
   -- a run keeps the table's sizes
-  pub ran_kept : (left n : ℕ) (t u : List ℕ) (x : Said Run) → measured t ≡ Sized s → run_from s left n t ≡ (x, u) → measured u ≡ Sized s
+  pub ran_kept : (left n : ℕ) (t u : List ℕ) (x : Said Run) → measured t ≡ Some s → run_from s left n t ≡ (x, u) → measured u ≡ Some s
   ran_kept left n t u x m e = let at : (run_from s left n t).1 ≡ u = ap (λ (y : Said Run × List ℕ). y.1) e in rw at at (run_kept left n t m)
 
   -- and where it ends an operation, nothing runs at its level or above
-  pub run_down : (left n m : ℕ) (t u : List ℕ) (e : End) → measured t ≡ Sized s → run_from s left n t ≡ (says (after m (an_end e)), u)
+  pub run_down : (left n m : ℕ) (t u : List ℕ) (e : End) → measured t ≡ Some s → run_from s left n t ≡ (says (after m (an_end e)), u)
       → Down s e u
   unfolding run_from ran_on
   run_down zero n m t u e k h =
@@ -177,7 +173,7 @@ module _ (s : Sizes) where
   run_down (suc left) n m t u e k h = by (step_sized s t) refl (step_kept s t k) (run_down left (n + 1) m) h
     where
       by : (x : Out) → step_sized s t ≡ x → Kept s x
-          → ((t u : List ℕ) (e : End) → measured t ≡ Sized s → run_from s left (n + 1) t ≡ (says (after m (an_end e)), u) → Down s e u)
+          → ((t u : List ℕ) (e : End) → measured t ≡ Some s → run_from s left (n + 1) t ≡ (says (after m (an_end e)), u) → Down s e u)
           → ran_on n (run_from s left) x.0 x.1 ≡ (says (after m (an_end e)), u)
           → Down s e u
       by (says going_on, v) z kept ih j = ih v u e kept.sized j
@@ -196,9 +192,9 @@ pub ended_within : (left m : ℕ) (t u : List ℕ) (e : End) → run_of left t �
 unfolding run_of run_measured
 ended_within left m t u e h = by (measured t) h
   where
-    by : (x : Measured) → run_measured left t x ≡ (says (after m (an_end e)), u) → (0 < m) × (m ≤ left)
-    by Unfit k =
+    by : (x : Option Sizes) → run_measured left t x ≡ (says (after m (an_end e)), u) → (0 < m) × (m ≤ left)
+    by None k =
         let said : refused 1 ≡ says (after m (an_end e)) = ap (λ (x : Said Run × List ℕ). x.0) k in
         let w : ◌≡◌ {A = ℕ} 0 1 = cc in
         absurd (omega arith)
-    by (Sized s) k = sized_ended_within s left m t u e k
+    by (Some s) k = sized_ended_within s left m t u e k

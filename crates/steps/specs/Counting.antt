@@ -3,7 +3,7 @@ use Prim.Native.Nat.{ℕ, zero, suc, ◌+◌, ◌≤◌}
 use Rattle.std.proofs.Math.Path.{◌≡◌, refl}
 use Rattle.std.proofs.Common.{ap, ◌∙◌, arith, add-one, lt-ltb, le-ltb, leb-true, leb-false}
 use mathlib.Core.List.{List}
-use Rattle.std.specs.Prelude.{Bool, cond, leb, ltb}
+use Rattle.std.specs.Prelude.{min, Bool, cond, leb, ltb, Option, Some, None}
 use Rattle.std.proofs.Math.Bool.{true, false}
 use Rattle.words.specs.declared.Level.{Level}
 use Rattle.words.specs.declared.Sizes.{Sizes}
@@ -20,8 +20,6 @@ use Rattle.table.specs.Turn.{turned}
 use Rattle.table.specs.Laws.{if_of}
 use Rattle.table.specs.declared.After.{After}
 use Rattle.table.specs.declared.After.TheVariants.{Go, Done}
-use Rattle.table.specs.declared.Turned.{Turned}
-use Rattle.table.specs.declared.Turned.TheVariants.{Next, Stray}
 use Rattle.steps.specs.Step.{strays, sound}
 use Rattle.steps.specs.Held.{followed, turn_of, held, set_steps, later}
 
@@ -49,22 +47,29 @@ later_full a (suc n) h k = by (leb 65535 (a + n)) refl (later_full a n h)
         let small : ltb (later a n) 65535 ≡ true = lt-ltb (later a n) 65535 (omega (arith, ih, leb-false 65535 (a + n) e)) in
         rw small (omega (arith, ih, leb-false 65535 (a + n) e))
 
+pub later_is : (a n : ℕ) → a ≤ 65535 → later a n ≡ min (a + n) 65535
+later_is a n h = by (leb (a + n) 65535) refl
+  where
+    by : (b : Bool) → leb (a + n) 65535 ≡ b → later a n ≡ min (a + n) 65535
+    by true e = omega (arith, later_fits a n (leb-true (a + n) 65535 e), leb-true (a + n) 65535 e)
+    by false e = omega (arith, later_full a n h (omega (arith, leb-false (a + n) 65535 e)), leb-false (a + n) 65535 e)
+
 -- ---- a row and what follows it, with another steps word
 
 abbrev after_with : ℕ → After → After
 after_with v (Go g) = Go (set_steps v g)
 after_with v (Done n) = Done n
 
-abbrev pub turned_with : ℕ → Turned → Turned
-turned_with v (Next a) = Next (after_with v a)
-turned_with v Stray = Stray
+abbrev pub turned_with : ℕ → Option After → Option After
+turned_with v (Some a) = Some (after_with v a)
+turned_with v None = None
 
 steps_if : (v a b : ℕ) (x y : After) → after_with v (if_eq a b x y) ≡ if_eq a b (after_with v x) (after_with v y)
 unfolding if_eq
 steps_if v a b x y = if_of (after_with v) a b x y
 
 module _ (s : Sizes) (t : List ℕ) (v : ℕ) where
-  abbrev with : Turned × List ℕ → Turned × List ℕ
+  abbrev with : Option After × List ℕ → Option After × List ℕ
   with x = (turned_with v x.0, x.1)
 
   load_steps : (w : Word) (a b : ℕ → After) → ((x : ℕ) → after_with v (a x) ≡ b x) → turned s t (loads w b) ≡ with (turned s t (loads w a))
@@ -72,7 +77,7 @@ module _ (s : Sizes) (t : List ℕ) (v : ℕ) where
   load_steps w a b h = by (has s w)
     where
       by : (c : Bool)
-          → ◌≡◌ {A = Turned × List ℕ} (cond c (Next (b (rd s t w)), t) (Stray, t)) (with (cond c (Next (a (rd s t w)), t) (Stray, t)))
+          → ◌≡◌ {A = Option After × List ℕ} (cond c (Some (b (rd s t w)), t) (None, t)) (with (cond c (Some (a (rd s t w)), t) (None, t)))
       by true = rw (h (rd s t w)) refl
       by false = refl
 
@@ -81,7 +86,7 @@ module _ (s : Sizes) (t : List ℕ) (v : ℕ) where
   store_steps w x a b h = by (has s w)
     where
       by : (c : Bool)
-          → ◌≡◌ {A = Turned × List ℕ} (cond c (Next b, wr s t w x) (Stray, t)) (with (cond c (Next a, wr s t w x) (Stray, t)))
+          → ◌≡◌ {A = Option After × List ℕ} (cond c (Some b, wr s t w x) (None, t)) (with (cond c (Some a, wr s t w x) (None, t)))
       by true = rw h refl
       by false = refl
 
@@ -92,7 +97,7 @@ module _ (s : Sizes) (t : List ℕ) (v : ℕ) where
       u : List ℕ
       u = wr s (wr s t (word.Next n) 0) (word.Use n) 0
 
-      by : (c : Bool) → ◌≡◌ {A = Turned × List ℕ} (cond c (Next b, u) (Stray, t)) (with (cond c (Next a, u) (Stray, t)))
+      by : (c : Bool) → ◌≡◌ {A = Option After × List ℕ} (cond c (Some b, u) (None, t)) (with (cond c (Some a, u) (None, t)))
       by true = rw h refl
       by false = refl
 
@@ -152,7 +157,7 @@ unfolding sound strays counted
 sound_counted s f = refl
 
 -- a step that was not counted, n steps after the last that was, is the counted one but for its steps word
-pub turn_held : (s : Sizes) (t u : List ℕ) (l : Level) (f : Frame) (a n : ℕ) (y : Turned) → sound s f ≡ true
+pub turn_held : (s : Sizes) (t u : List ℕ) (l : Level) (f : Frame) (a n : ℕ) (y : Option After) → sound s f ≡ true
     → turn_of s t l f ≡ (y, u)
     → held s t l (counted (set_steps (later a n) f))
     ≡ (followed l (set_steps (later a (n + 1)) f) (turned_with (later a (n + 1)) y), u)

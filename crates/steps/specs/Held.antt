@@ -1,5 +1,5 @@
 -- A step of the served frame, held beside the table: what it does there, and the step that it is once the frame is put back.
-use Rattle.std.specs.Prelude.{ℕ, zero, suc, ◌+◌, List, cond, ltb}
+use Rattle.std.specs.Prelude.{ℕ, zero, suc, ◌+◌, List, cond, ltb, Option, Some, None}
 use Rattle.words.specs.declared.Level.{Level}
 use Rattle.words.specs.declared.Sizes.{Sizes}
 use Rattle.words.specs.declared.Frame.{Frame}
@@ -10,9 +10,8 @@ use Rattle.table.specs.Points.{point_of}
 use Rattle.table.specs.Frames.{frame}
 use Rattle.table.specs.Table.{row}
 use Rattle.table.specs.Turn.{turned}
+use Rattle.table.specs.declared.After.{After}
 use Rattle.table.specs.declared.After.TheVariants.{Go, Done}
-use Rattle.table.specs.declared.Turned.{Turned}
-use Rattle.table.specs.declared.Turned.TheVariants.{Next, Stray}
 use Rattle.steps.specs.Step.{Out, sound, end_of}
 
 -- what a step leaves of the frame
@@ -21,16 +20,16 @@ pub data Held : Type 0 where
   Ended : End → Held
   Damaged : Held
 
-unfoldable pub followed : Level → Frame → Turned → Held
-followed l f (Next (Go g)) = Going g
-followed l f (Next (Done n)) = Ended (end_of l f n)
-followed l f Stray = Damaged
+unfoldable pub followed : Level → Frame → Option After → Held
+followed l f (Some (Go g)) = Going g
+followed l f (Some (Done n)) = Ended (end_of l f n)
+followed l f None = Damaged
 
-abbrev pub follow : Level → Frame → Turned × List ℕ → Held × List ℕ
+abbrev pub follow : Level → Frame → Option After × List ℕ → Held × List ℕ
 follow l f x = (followed l f x.0, x.1)
 
 -- the access of the frame's row
-abbrev pub turn_of : Sizes → List ℕ → Level → Frame → Turned × List ℕ
+abbrev pub turn_of : Sizes → List ℕ → Level → Frame → Option After × List ℕ
 turn_of s t l f = turned s t (row (point_of f.point) f l (level s.levels))
 
 -- f has this step counted

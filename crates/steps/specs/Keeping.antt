@@ -3,7 +3,7 @@ use Prim.Native.Nat.{ℕ, zero, suc, ◌≤◌, ◌<◌}
 use Rattle.std.proofs.Math.Path.{◌≡◌, refl, ap}
 use Rattle.std.proofs.Common.{sym, ◌∙◌}
 use mathlib.Core.List.{List}
-use Rattle.std.specs.Prelude.{Bool, cond, not, length, eqb}
+use Rattle.std.specs.Prelude.{Bool, cond, not, length, eqb, Option, Some, None}
 use Rattle.std.proofs.Math.Bool.{true, false, false≢true}
 use native.Mathlib.Omega.{arith}
 use borrow.Author.Tests.{eqb-true, eqb-false, not-true}
@@ -23,8 +23,6 @@ use Rattle.table.specs.Turn.{turned}
 use Rattle.table.specs.Laws.{if_of, either}
 use Rattle.table.specs.declared.After.{After}
 use Rattle.table.specs.declared.After.TheVariants.{Go, Done}
-use Rattle.table.specs.declared.Turned.{Turned}
-use Rattle.table.specs.declared.Turned.TheVariants.{Next, Stray}
 use Rattle.steps.specs.Step.{serving, sound}
 use Rattle.steps.specs.Held.{Held, Going, Damaged, followed, follow, held}
 
@@ -157,17 +155,17 @@ module _ (s : Sizes) (t : List ℕ) (room : words s ≤ length t) where
   Uses u = (n : Node) → has s (word.Use n) ≡ true → rd s u (word.Use n) ≡ rd s t (word.Use n)
 
   -- what an access leaves: the frames as they were, op and queue, and the uses
-  record Kept (o : ℕ × ℕ) (x : Turned × List ℕ) : Type 0 where
+  record Kept (o : ℕ × ℕ) (x : Option After × List ℕ) : Type 0 where
     pub long : length x.1 ≡ length t
     pub frames : (k : Level) → frame_of s x.1 k ≡ frame_of s t k
-    pub kinds : (g : Frame) → x.0 ≡ Next (Go g) → kind g ≡ o
-    pub uses : (g : Frame) → x.0 ≡ Next (Go g) → Uses x.1
+    pub kinds : (g : Frame) → x.0 ≡ Some (Go g) → kind g ≡ o
+    pub uses : (g : Frame) → x.0 ≡ Some (Go g) → Uses x.1
 
-  kind_next : (o : ℕ × ℕ) (a : After) (g : Frame) → kind_after o a ≡ o → ◌≡◌ {A = Turned} (Next a) (Next (Go g)) → kind g ≡ o
+  kind_next : (o : ℕ × ℕ) (a : After) (g : Frame) → kind_after o a ≡ o → ◌≡◌ {A = Option After} (Some a) (Some (Go g)) → kind g ≡ o
   unfolding kind_after
   kind_next o a g e h = let z : a ≡ Go g = cc in rw z at e
 
-  stray_kept : (o : ℕ × ℕ) → Kept o (Stray, t)
+  stray_kept : (o : ℕ × ℕ) → Kept o (None, t)
   stray_kept o =
       record {
         long = refl;
@@ -183,7 +181,7 @@ module _ (s : Sizes) (t : List ℕ) (room : words s ≤ length t) where
       let apart : word.Use n ≡ w → ⊥ = λ e. false≢true (sym no_use ∙ ap is_use (sym e)) in
       rd_other s t room w h (word.Use n) i apart v
 
-  freed_ends : (n : Node) (after : After) (g : Frame) → spares (frees n after) ≡ true → ◌≡◌ {A = Turned} (Next after) (Next (Go g)) → ⊥
+  freed_ends : (n : Node) (after : After) (g : Frame) → spares (frees n after) ≡ true → ◌≡◌ {A = Option After} (Some after) (Some (Go g)) → ⊥
   unfolding spares
   freed_ends n (Go h) g k e = false≢true k
   freed_ends n (Done m) g k e = let z : ◌≡◌ {A = ℕ} 0 1 = cc in omega arith
@@ -192,7 +190,7 @@ module _ (s : Sizes) (t : List ℕ) (room : words s ≤ length t) where
   unfolding turned kind_of
   turned_keeps o (loads w after) h i = by (has s w)
     where
-      by : (b : Bool) → Kept o (cond b (Next (after (rd s t w)), t) (Stray, t))
+      by : (b : Bool) → Kept o (cond b (Some (after (rd s t w)), t) (None, t))
       by true =
           record {
             long = refl;
@@ -203,7 +201,7 @@ module _ (s : Sizes) (t : List ℕ) (room : words s ≤ length t) where
       by false = stray_kept o
   turned_keeps o (stores w v after) h i = by (has s w) refl
     where
-      by : (b : Bool) → has s w ≡ b → Kept o (cond b (Next after, wr s t w v) (Stray, t))
+      by : (b : Bool) → has s w ≡ b → Kept o (cond b (Some after, wr s t w v) (None, t))
       by true e =
           record {
             long = wr_length s t w v;
@@ -214,7 +212,7 @@ module _ (s : Sizes) (t : List ℕ) (room : words s ≤ length t) where
       by false e = stray_kept o
   turned_keeps o (frees n after) h i = by (has s (word.Next n)) refl
     where
-      by : (b : Bool) → has s (word.Next n) ≡ b → Kept o (cond b (Next after, wr s (wr s t (word.Next n) 0) (word.Use n) 0) (Stray, t))
+      by : (b : Bool) → has s (word.Next n) ≡ b → Kept o (cond b (Some after, wr s (wr s t (word.Next n) 0) (word.Use n) 0) (None, t))
       by true e =
           record {
             long = wr_length s (wr s t (word.Next n) 0) (word.Use n) 0 ∙ wr_length s t (word.Next n) 0;
@@ -231,7 +229,7 @@ module _ (s : Sizes) (t : List ℕ) (room : words s ≤ length t) where
     pub kinds : kind g ≡ kind f
     pub uses : Uses u
 
-  going : (l : Level) (f g : Frame) (u : List ℕ) (x : Turned × List ℕ) → Kept (kind f) x
+  going : (l : Level) (f g : Frame) (u : List ℕ) (x : Option After × List ℕ) → Kept (kind f) x
       → ◌≡◌ {A = Held × List ℕ} (follow l f x) (Going g, u)
       → Goes f g u
   unfolding followed
@@ -240,13 +238,13 @@ module _ (s : Sizes) (t : List ℕ) (room : words s ≤ length t) where
       at : x.1 ≡ u
       at = ap (λ (y : Held × List ℕ). y.1) e
 
-      by : (y : Turned) → ((g : Frame) → y ≡ Next (Go g) → kind g ≡ kind f) → ((g : Frame) → y ≡ Next (Go g) → Uses x.1)
+      by : (y : Option After) → ((g : Frame) → y ≡ Some (Go g) → kind g ≡ kind f) → ((g : Frame) → y ≡ Some (Go g) → Uses x.1)
           → followed l f y ≡ Going g → Goes f g u
-      by (Next (Go h)) o v z =
+      by (Some (Go h)) o v z =
           let w : h ≡ g = cc in
           record { frames = λ k'. rw at at (k.frames k'); kinds = o g (rw w); uses = rw at at (v g (rw w)) }
-      by (Next (Done n)) o v z = let w : ◌≡◌ {A = ℕ} 0 1 = cc in absurd (omega arith)
-      by Stray o v z = let w : ◌≡◌ {A = ℕ} 0 1 = cc in absurd (omega arith)
+      by (Some (Done n)) o v z = let w : ◌≡◌ {A = ℕ} 0 1 = cc in absurd (omega arith)
+      by None o v z = let w : ◌≡◌ {A = ℕ} 0 1 = cc in absurd (omega arith)
 
   row_keeps : (l : Level) (f : Frame) → Kept (kind f) (turned s t (row (point_of f.point) f l (level s.levels)))
   row_keeps l f =
@@ -258,7 +256,7 @@ module _ (s : Sizes) (t : List ℕ) (room : words s ≤ length t) where
   unfolding held
   held_goes l f g u e = by (sound s f) e
     where
-      x : Turned × List ℕ
+      x : Option After × List ℕ
       x = turned s t (row (point_of f.point) f l (level s.levels))
 
       by : (b : Bool) → ◌≡◌ {A = Held × List ℕ} (cond b (follow l f x) (Damaged, t)) (Going g, u) → Goes f g u
@@ -277,7 +275,7 @@ module _ (s : Sizes) (t : List ℕ) (room : words s ≤ length t) where
   unfolding held
   held_leaves l f = by (sound s f)
     where
-      x : Turned × List ℕ
+      x : Option After × List ℕ
       x = turned s t (row (point_of f.point) f l (level s.levels))
 
       by : (b : Bool) → Left (cond {A = Held × List ℕ} b (follow l f x) (Damaged, t)).1

@@ -1,8 +1,6 @@
 -- A run of steps with a budget.
-use Rattle.std.specs.Prelude.{ℕ, zero, suc, ◌+◌, List, cond, eqb}
+use Rattle.std.specs.Prelude.{ℕ, zero, suc, ◌+◌, List, cond, eqb, Option, Some, None}
 use Rattle.words.specs.declared.Sizes.{Sizes}
-use Rattle.words.specs.declared.Measured.{Measured}
-use Rattle.words.specs.declared.Measured.TheVariants.{Sized, Unfit}
 use Rattle.words.specs.Layout.{measured}
 use Rattle.answers.specs.Said.{Said, refused, says, Step, going_on, ended, Run, after, an_end, spent, nothing_runs, refusal_10}
 use Rattle.steps.specs.Step.{step_sized}
@@ -18,9 +16,9 @@ unfoldable pub run_from : Sizes → ℕ → ℕ → List ℕ → Said Run × Lis
 run_from s zero n t = (says (after n spent), t)
 run_from s (suc left) n t = ran_on n (run_from s left) (step_sized s t).0 (step_sized s t).1
 
-unfoldable pub run_measured : ℕ → List ℕ → Measured → Said Run × List ℕ
-run_measured budget t Unfit = (refused 1, t)
-run_measured budget t (Sized s) = run_from s budget 0 t
+unfoldable pub run_measured : ℕ → List ℕ → Option Sizes → Said Run × List ℕ
+run_measured budget t None = (refused 1, t)
+run_measured budget t (Some s) = run_from s budget 0 t
 
 -- refusal 1, then as document 01 says
 unfoldable pub run_of : ℕ → List ℕ → Said Run × List ℕ

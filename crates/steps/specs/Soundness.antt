@@ -3,7 +3,7 @@ use Prim.Native.Nat.{ℕ, ◌≤◌}
 use Rattle.std.proofs.Math.Path.{◌≡◌, refl, ap}
 use Rattle.std.proofs.Common.{sym, arith, eqb-true}
 use mathlib.Core.List.{List, [], ◌∷◌}
-use Rattle.std.specs.Prelude.{Bool, cond, ◌&&◌, length, eqb}
+use Rattle.std.specs.Prelude.{Bool, cond, ◌&&◌, length, eqb, Option, Some, None}
 use Rattle.std.proofs.Math.Bool.{true, false, not}
 use Rattle.std.proofs.lemmas.Bool.{false≢true}
 use Rattle.std.proofs.Math.Dec.{leb}
@@ -21,8 +21,6 @@ use Rattle.table.specs.Turn.{turned}
 use Rattle.table.specs.Laws.{if_of, either}
 use Rattle.table.specs.declared.After.{After}
 use Rattle.table.specs.declared.After.TheVariants.{Go, Done}
-use Rattle.table.specs.declared.Turned.{Turned}
-use Rattle.table.specs.declared.Turned.TheVariants.{Next, Stray}
 use Rattle.steps.specs.Step.{strays, sound}
 use Rattle.steps.specs.Held.{Going, followed, turn_of, held}
 use Rattle.steps.specs.Keeping.{kind, held_goes}
@@ -93,25 +91,25 @@ point_early (x ∷ xs) n h = by (eqb n (number_of x)) refl (point_early xs n h)
     by false e again = again
 
 module _ (s : Sizes) (t : List ℕ) where
-  late_next : (a : After) (g : Frame) → late a ≡ false → ◌≡◌ {A = Turned} (Next a) (Next (Go g)) → leb (number_of D1) g.point ≡ false
+  late_next : (a : After) (g : Frame) → late a ≡ false → ◌≡◌ {A = Option After} (Some a) (Some (Go g)) → leb (number_of D1) g.point ≡ false
   unfolding late
   late_next a g h e = let z : a ≡ Go g = cc in rw z at h
 
-  stray_next : (g : Frame) → ◌≡◌ {A = Turned} Stray (Next (Go g)) → ⊥
+  stray_next : (g : Frame) → ◌≡◌ {A = Option After} None (Some (Go g)) → ⊥
   stray_next g e = let z : ◌≡◌ {A = ℕ} 0 1 = cc in omega arith
 
-  turned_early : (r : Row) (g : Frame) → ((x : ℕ) → late_of x r ≡ false) → (turned s t r).0 ≡ Next (Go g)
+  turned_early : (r : Row) (g : Frame) → ((x : ℕ) → late_of x r ≡ false) → (turned s t r).0 ≡ Some (Go g)
       → leb (number_of D1) g.point ≡ false
   unfolding turned late_of
   turned_early (loads w after) g h = by (has s w)
     where
-      by : (b : Bool) → ◌≡◌ {A = Turned} (cond {A = Turned × List ℕ} b (Next (after (rd s t w)), t) (Stray, t)).0 (Next (Go g))
+      by : (b : Bool) → ◌≡◌ {A = Option After} (cond {A = Option After × List ℕ} b (Some (after (rd s t w)), t) (None, t)).0 (Some (Go g))
           → leb (number_of D1) g.point ≡ false
       by true e = late_next (after (rd s t w)) g (h (rd s t w)) e
       by false e = absurd (stray_next g e)
   turned_early (stores w v after) g h = by (has s w)
     where
-      by : (b : Bool) → ◌≡◌ {A = Turned} (cond {A = Turned × List ℕ} b (Next after, wr s t w v) (Stray, t)).0 (Next (Go g))
+      by : (b : Bool) → ◌≡◌ {A = Option After} (cond {A = Option After × List ℕ} b (Some after, wr s t w v) (None, t)).0 (Some (Go g))
           → leb (number_of D1) g.point ≡ false
       by true e = late_next after g (h 0) e
       by false e = absurd (stray_next g e)
@@ -120,14 +118,14 @@ module _ (s : Sizes) (t : List ℕ) where
       u : List ℕ
       u = wr s (wr s t (word.Next n) 0) (word.Use n) 0
 
-      by : (b : Bool) → ◌≡◌ {A = Turned} (cond {A = Turned × List ℕ} b (Next after, u) (Stray, t)).0 (Next (Go g))
+      by : (b : Bool) → ◌≡◌ {A = Option After} (cond {A = Option After × List ℕ} b (Some after, u) (None, t)).0 (Some (Go g))
           → leb (number_of D1) g.point ≡ false
       by true e = late_next after g (h 0) e
       by false e = absurd (stray_next g e)
   turned_early nothing g h = λ e. absurd (stray_next g e)
 
   module _ (l : Level) (f g : Frame) (u : List ℕ) (room : words s ≤ length t) (before : sound s f ≡ true)
-      (next : turn_of s t l f ≡ (Next (Go g), u)) where
+      (next : turn_of s t l f ≡ (Some (Go g), u)) where
     kinds : kind g ≡ kind f
     unfolding held followed
     kinds =
@@ -140,7 +138,7 @@ module _ (s : Sizes) (t : List ℕ) where
         let p = point_of f.point in
         turned_early (row p f l (level s.levels)) g
         (λ x. row_early p f l (level s.levels) x one low (point_early points f.point low))
-        (ap (λ (x : Turned × List ℕ). x.0) next)
+        (ap (λ (x : Option After × List ℕ). x.0) next)
 
     still : (b c : Bool) → eqb f.op 1 ≡ b → leb (number_of D1) f.point ≡ c → not (b && c) ≡ true
         → not (b && leb (number_of D1) g.point) ≡ true

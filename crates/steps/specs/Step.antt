@@ -1,11 +1,9 @@
 -- One step: what it answers, and the table afterwards.
-use Rattle.std.specs.Prelude.{ℕ, zero, suc, List, Bool, cond, not, ◌&&◌, leb, eqb}
+use Rattle.std.specs.Prelude.{ℕ, zero, suc, List, Bool, cond, not, ◌&&◌, leb, eqb, Option, Some, None}
 use Rattle.words.specs.declared.Level.{Level}
 use Rattle.words.specs.declared.Node.{Node}
 use Rattle.words.specs.declared.Sizes.{Sizes}
 use Rattle.words.specs.declared.Frame.{Frame}
-use Rattle.words.specs.declared.Measured.{Measured}
-use Rattle.words.specs.declared.Measured.TheVariants.{Sized, Unfit}
 use Rattle.words.specs.declared.Word.TheVariants.{Next, Use}
 use Rattle.words.specs.Layout.{level, within, measured, has, rd, wr, frame_of, put_frame, no_frame}
 use Rattle.answers.specs.declared.End.{End}
@@ -15,17 +13,15 @@ use Rattle.table.specs.Frames.{counted}
 use Rattle.table.specs.Table.{Row, loads, stores, frees, nothing, row}
 use Rattle.table.specs.declared.After.{After}
 use Rattle.table.specs.declared.After.TheVariants.{Go, Done}
-use Rattle.steps.specs.declared.Served.{Served}
-use Rattle.steps.specs.declared.Served.TheVariants.{At, Nobody}
 
 -- what is said, and the table afterwards
 abbrev pub Out : Type 0
 Out = Said Step × List ℕ
 
 -- the highest level below n whose op is not 0
-unfoldable pub serving : Sizes → List ℕ → ℕ → Served
-serving s t zero = Nobody
-serving s t (suc n) = cond (eqb (frame_of s t (level n)).op 0) (serving s t n) (At (level n))
+unfoldable pub serving : Sizes → List ℕ → ℕ → Option Level
+serving s t zero = None
+serving s t (suc n) = cond (eqb (frame_of s t (level n)).op 0) (serving s t n) (Some (level n))
 
 -- op 1 at a D point
 unfoldable pub strays : Frame → Bool
@@ -57,17 +53,17 @@ unfoldable pub step_frame : Sizes → List ℕ → Level → Frame → Out
 step_frame s t l f =
     cond (sound s f) (performed s t l f (row (point_of f.point) f l (level s.levels))) (refused 10, t)
 
-unfoldable pub step_served : Sizes → List ℕ → Served → Out
-step_served s t Nobody = (refused 9, t)
-step_served s t (At l) = step_frame s t l (counted (frame_of s t l))
+unfoldable pub step_served : Sizes → List ℕ → Option Level → Out
+step_served s t None = (refused 9, t)
+step_served s t (Some l) = step_frame s t l (counted (frame_of s t l))
 
 -- a step of a table of these sizes
 unfoldable pub step_sized : Sizes → List ℕ → Out
 step_sized s t = step_served s t (serving s t s.levels)
 
-unfoldable pub step_measured : List ℕ → Measured → Out
-step_measured t Unfit = (refused 1, t)
-step_measured t (Sized s) = step_sized s t
+unfoldable pub step_measured : List ℕ → Option Sizes → Out
+step_measured t None = (refused 1, t)
+step_measured t (Some s) = step_sized s t
 
 -- refusals 1, 9, 10
 unfoldable pub step_of : List ℕ → Out

@@ -4,14 +4,14 @@
 ghost use Rattle.std.specs.Prelude.{◌≡◌, map};
 ghost use Rattle.table.specs.Points.{point_of, number_of, points};
 ghost use Rattle.words.specs.Inner.{Fits};
-ghost use Rattle.table.specs.declared.After.TheVariants.{Go, Done};
 ghost use Rattle.table.specs.Frames.{go_to, below_k_to, below_m_to};
 ghost use Rattle.table.specs.Table.{row};
-ghost use Rattle.table.specs.Turn.{loaded, stored, follows, turned};
+ghost use Rattle.table.specs.Turn.{loaded, stored, turned};
 
 use words::{Frame, Level, Node, Sizes, Word};
 
 // A point of the step table, by the number that a frame holds.
+// kept: document 01 wants each point as an associated constant of the point type, and a frame's point may be a number of none of them.
 #[derive(Clone, Copy)]
 pub struct Point(pub u16);
 
@@ -133,376 +133,323 @@ pub fn numbers() -> [u16; 36]
     ]
 }
 
-// What follows an access: the frame as it goes on, or the operation's end with its node, 0 for empty.
+// What follows an access: the frame as it goes on (it stays at its point, or goes to another), or the operation's end with its node, 0 for
+// empty.
 #[derive(Clone, Copy)]
 pub enum After {
     Go(Frame),
     Done(Node),
 }
 
-// The same frame, made again word by word: a compiler then keeps its words apart, where it would copy them together.
-fn apart(f: Frame) -> Frame
-    ensures { result ≡ f }
+// Go to the point x.
+fn go(f: Frame, x: u16) -> After
+    ensures { result ≡ go_to x f }
 {
-    let queue = f.queue;
-    let node = f.node;
-    let k = f.k;
-    let p = f.p;
-    let c = f.c;
-    let a = f.a;
-    let r = f.r;
-    let m = f.m;
-    Frame {
-        op: f.op,
-        point: f.point,
-        queue,
-        node,
+    After::Go(Frame { point: x, ..f })
+}
+
+// Below k: if k is 0 go to x, else take 1 from k and go to y.
+// kept: a twin of below_m, whose one difference is the field; one function for both would take the field's reading and writing as closures.
+#[tactic(auto, unfolding(crate::specs::Frames::below_k_to, crate::specs::Frames::if_eq))]
+fn below_k(f: Frame, x: u16, y: u16) -> After
+    ensures { result ≡ below_k_to x y f }
+{
+    match f.k.0.checked_sub(1) {
+        None => go(f, x),
+        Some(k) => go(Frame { k: Level(k), ..f }, y),
+    }
+}
+
+// Below m: if m is 0 go to x, else take 1 from m and go to y.
+#[tactic(auto, unfolding(crate::specs::Frames::below_m_to, crate::specs::Frames::if_eq))]
+fn below_m(f: Frame, x: u16, y: u16) -> After
+    ensures { result ≡ below_m_to x y f }
+{
+    match f.m.0.checked_sub(1) {
+        None => go(f, x),
+        Some(m) => go(Frame { m: Level(m), ..f }, y),
+    }
+}
+
+// What the word holds, where it is one of the table's.
+#[tactic(auto, unfolding(crate::specs::Turn::loaded))]
+fn load(t: &[u16], s: Sizes, w: Word) -> Option<u16>
+    requires { Fits s t.now }
+    ensures { result ≡ loaded s t.now w }
+{
+    if words::has_word(s, w) {
+        Some(words::load(t, s, w))
+    } else {
+        None
+    }
+}
+
+// The word holds v from now on, where it is one of the table's.
+#[tactic(auto, unfolding(crate::specs::Turn::stored))]
+fn store(t: &mut [u16], s: Sizes, w: Word, v: u16) -> Option<()>
+    requires { Fits s t.old }
+    ensures { stored s t.old w v ≡ (result, t.new) }
+{
+    if !words::has_word(s, w) {
+        return None;
+    }
+    words::store(t, s, w, v);
+    Some(())
+}
+
+// The step table: a case for each point, in document 01's order, with its one access, its tests and its next points. The frame is held
+// beside the table: q and n are its queue and node, k to m its words of these names. x is what was loaded. None: the access is to a word
+// that is not one of the table's, or there is no such point.
+pub fn turn(t: &mut [u16], s: Sizes, l: Level, top: Level, mut f: Frame) -> Option<After>
+    requires { Fits s t.old }
+    ensures { turned s t.old (row (point_of f.point) f l top) ≡ (result, t.new) }
+{
+    let Frame {
+        queue: q,
+        node: n,
         k,
         p,
         c,
         a,
         r,
         m,
-        steps: f.steps,
-    }
-}
-
-// An access as it was tried: the value that it loaded or stored, and whether its word is there, one of the table's.
-#[derive(Clone, Copy)]
-struct Access {
-    value: u16,
-    there: bool,
-}
-
-// What follows an access, or Stray where its word is not one of the table's.
-#[derive(Clone, Copy)]
-pub enum Turned {
-    Next(After),
-    Stray,
-}
-
-// What a case says after its access: stay, go, below k, below m, or the operation's end.
-impl Access {
-    // The one place where an access to a word that is not there is refused.
-    fn then(self, next: After) -> Turned
-        ensures { result ≡ follows self next }
-    {
-        if self.there {
-            Turned::Next(next)
-        } else {
-            Turned::Stray
-        }
-    }
-
-    // Stay at the point.
-    fn stay(self, f: Frame) -> Turned
-        ensures { result ≡ follows self (Go f) }
-    {
-        self.then(After::Go(apart(f)))
-    }
-
-    // Go to the point x.
-    fn go(self, mut f: Frame, x: u16) -> Turned
-        ensures { result ≡ follows self (go_to x f) }
-    {
-        f.point = x;
-        self.stay(f)
-    }
-
-    // Below k: if k is 0 go to x, else take 1 from k and go to y.
-    fn below_k(self, mut f: Frame, x: u16, y: u16) -> Turned
-        ensures { result ≡ follows self (below_k_to x y f) }
-    {
-        let k = f.k.0;
-        if k == 0 {
-            self.go(f, x)
-        } else {
-            let below = Level(k - 1);
-            f.k = below;
-            self.go(f, y)
-        }
-    }
-
-    // Below m: if m is 0 go to x, else take 1 from m and go to y.
-    fn below_m(self, mut f: Frame, x: u16, y: u16) -> Turned
-        ensures { result ≡ follows self (below_m_to x y f) }
-    {
-        let m = f.m.0;
-        if m == 0 {
-            self.go(f, x)
-        } else {
-            let below = Level(m - 1);
-            f.m = below;
-            self.go(f, y)
-        }
-    }
-
-    // The operation ends with node n, 0 for empty.
-    fn ends(self, n: Node) -> Turned
-        ensures { result ≡ follows self (Done n) }
-    {
-        self.then(After::Done(n))
-    }
-}
-
-fn load(t: &[u16], s: Sizes, w: Word) -> Access
-    requires { Fits s t.now }
-    ensures { result ≡ loaded s t.now w }
-{
-    if words::has_word(s, w) {
-        Access {
-            value: words::load(t, s, w),
-            there: true,
-        }
-    } else {
-        Access {
-            value: 0,
-            there: false,
-        }
-    }
-}
-
-fn store(t: &mut [u16], s: Sizes, w: Word, v: u16) -> Access
-    requires { Fits s t.old }
-    ensures { stored s t.old w v ≡ (result, t.new) }
-{
-    if words::has_word(s, w) {
-        words::store(t, s, w, v);
-        Access {
-            value: v,
-            there: true,
-        }
-    } else {
-        Access {
-            value: v,
-            there: false,
-        }
-    }
-}
-
-// The step table: a case for each point, in document 01's order, with its one access, its tests and its next points. The frame is held
-// beside the table: q and n are its queue and node, k to m its words of these names. x is a load, with what it loaded as x.value.
-pub fn turn(t: &mut [u16], s: Sizes, l: Level, top: Level, mut f: Frame) -> Turned
-    requires { Fits s t.old }
-    ensures { turned s t.old (row (point_of f.point) f l top) ≡ (result, t.new) }
-{
-    let point = f.point;
-    let q = f.queue;
-    let n = f.node;
-    let k = f.k;
-    let p = f.p;
-    let c = f.c;
-    let a = f.a;
-    let r = f.r;
-    let m = f.m;
-    match point {
+        ..
+    } = f;
+    match f.point {
         // V: show the node and the queue at this level; look at the levels below that are at work on the queue
-        Point::E1 => store(t, s, Word::LevelNode(l), n.0).go(f, Point::E2),
+        Point::E1 => {
+            store(t, s, Word::LevelNode(l), n.0)?;
+            Some(go(f, Point::E2))
+        }
         Point::E2 => {
-            let made = store(t, s, Word::LevelQueue(l), q.0);
+            store(t, s, Word::LevelQueue(l), q.0)?;
             f.k = l;
-            made.below_k(f, Point::E7, Point::E3)
+            Some(below_k(f, Point::E7, Point::E3))
         }
         Point::E3 => {
-            let x = load(t, s, Word::LevelQueue(k));
-            if x.value == q.0 {
-                x.go(f, Point::E4)
+            let x = load(t, s, Word::LevelQueue(k))?;
+            if x == q.0 {
+                Some(go(f, Point::E4))
             } else {
-                x.below_k(f, Point::E7, Point::E3)
+                Some(below_k(f, Point::E7, Point::E3))
             }
         }
         Point::E4 => {
-            let x = load(t, s, Word::LevelNode(k));
-            f.p.0 = x.value;
-            x.go(f, Point::E5)
+            let x = load(t, s, Word::LevelNode(k))?;
+            f.p = Node(x);
+            Some(go(f, Point::E5))
         }
         Point::E5 => {
-            let x = load(t, s, Word::Tail(q));
-            if x.value == p.0 {
-                x.go(f, Point::E6)
+            let x = load(t, s, Word::Tail(q))?;
+            if x == p.0 {
+                Some(go(f, Point::E6))
             } else {
                 f.m = k;
-                x.below_m(f, Point::E15, Point::E13)
+                Some(below_m(f, Point::E15, Point::E13))
             }
         }
-        Point::E6 => store(t, s, Word::LevelQueue(k), 0).below_k(f, Point::E7, Point::E3),
+        Point::E6 => {
+            store(t, s, Word::LevelQueue(k), 0)?;
+            Some(below_k(f, Point::E7, Point::E3))
+        }
         // none is left: follow the tail, link the node behind it, follow the node, move the tail
         Point::E7 => {
-            let x = load(t, s, Word::Tail(q));
-            f.c.0 = x.value;
-            x.go(f, Point::E8)
+            let x = load(t, s, Word::Tail(q))?;
+            f.c = Node(x);
+            Some(go(f, Point::E8))
         }
         Point::E8 => {
-            let x = load(t, s, Word::Next(c));
-            if x.value != 0 {
-                f.c.0 = x.value;
-                x.stay(f)
+            let x = load(t, s, Word::Next(c))?;
+            if x != 0 {
+                f.c = Node(x);
+                Some(After::Go(f))
             } else {
-                x.go(f, Point::E9)
+                Some(go(f, Point::E9))
             }
         }
         Point::E9 => {
-            let made = store(t, s, Word::Next(c), n.0);
+            store(t, s, Word::Next(c), n.0)?;
             f.c = n;
-            made.go(f, Point::E10)
+            Some(go(f, Point::E10))
         }
         Point::E10 => {
-            let x = load(t, s, Word::Next(c));
-            if x.value != 0 {
-                f.c.0 = x.value;
-                x.stay(f)
+            let x = load(t, s, Word::Next(c))?;
+            if x != 0 {
+                f.c = Node(x);
+                Some(After::Go(f))
             } else {
-                x.go(f, Point::E11)
+                Some(go(f, Point::E11))
             }
         }
-        Point::E11 => store(t, s, Word::LevelNode(l), c.0).go(f, Point::E12),
-        Point::E12 => store(t, s, Word::Tail(q), c.0).go(f, Point::E28),
+        Point::E11 => {
+            store(t, s, Word::LevelNode(l), c.0)?;
+            Some(go(f, Point::E12))
+        }
+        Point::E12 => {
+            store(t, s, Word::Tail(q), c.0)?;
+            Some(go(f, Point::E28))
+        }
         // find_anchor: the node before p, first along the chains of the levels below, then along the tail's
         Point::E13 => {
-            let x = load(t, s, Word::LevelQueue(m));
-            if x.value == q.0 {
-                x.go(f, Point::E14)
+            let x = load(t, s, Word::LevelQueue(m))?;
+            if x == q.0 {
+                Some(go(f, Point::E14))
             } else {
-                x.below_m(f, Point::E15, Point::E13)
+                Some(below_m(f, Point::E15, Point::E13))
             }
         }
         Point::E14 => {
-            let x = load(t, s, Word::LevelNode(m));
-            f.c.0 = x.value;
-            if x.value == 0 {
-                x.below_m(f, Point::E15, Point::E13)
+            let x = load(t, s, Word::LevelNode(m))?;
+            f.c = Node(x);
+            if x == 0 {
+                Some(below_m(f, Point::E15, Point::E13))
             } else {
-                x.go(f, Point::E16)
+                Some(go(f, Point::E16))
             }
         }
         Point::E15 => {
-            let x = load(t, s, Word::Tail(q));
-            f.c.0 = x.value;
+            let x = load(t, s, Word::Tail(q))?;
+            f.c = Node(x);
             f.m = top;
-            x.go(f, Point::E16)
+            Some(go(f, Point::E16))
         }
         Point::E16 => {
-            let x = load(t, s, Word::Next(c));
-            if x.value == p.0 {
+            let x = load(t, s, Word::Next(c))?;
+            if x == p.0 {
                 f.a = c;
-                x.go(f, Point::E21)
-            } else if x.value != 0 {
-                f.c.0 = x.value;
-                x.stay(f)
-            } else if m.0 == top.0 {
-                x.go(f, Point::E17)
+                Some(go(f, Point::E21))
+            } else if x != 0 {
+                f.c = Node(x);
+                Some(After::Go(f))
+            } else if m == top {
+                Some(go(f, Point::E17))
             } else {
-                x.below_m(f, Point::E15, Point::E13)
+                Some(below_m(f, Point::E15, Point::E13))
             }
         }
         // no anchor, stalled: the node goes behind p, and what was there behind the node's chain
         Point::E17 => {
-            let x = load(t, s, Word::Next(p));
-            f.r.0 = x.value;
-            x.go(f, Point::E18)
+            let x = load(t, s, Word::Next(p))?;
+            f.r = Node(x);
+            Some(go(f, Point::E18))
         }
         Point::E18 => {
-            let made = store(t, s, Word::Next(p), n.0);
+            store(t, s, Word::Next(p), n.0)?;
             f.c = n;
-            made.go(f, Point::E19)
+            Some(go(f, Point::E19))
         }
         Point::E19 => {
-            let x = load(t, s, Word::Next(c));
-            if x.value != 0 {
-                f.c.0 = x.value;
-                x.stay(f)
+            let x = load(t, s, Word::Next(c))?;
+            if x != 0 {
+                f.c = Node(x);
+                Some(After::Go(f))
             } else {
-                x.go(f, Point::E20)
+                Some(go(f, Point::E20))
             }
         }
-        Point::E20 => store(t, s, Word::Next(c), r.0).go(f, Point::E28),
+        Point::E20 => {
+            store(t, s, Word::Next(c), r.0)?;
+            Some(go(f, Point::E28))
+        }
         // an anchor: the node goes behind it, and what was there behind the node's chain; the tail moves if it was the anchor
         Point::E21 => {
-            let x = load(t, s, Word::Next(a));
-            f.r.0 = x.value;
-            x.go(f, Point::E22)
+            let x = load(t, s, Word::Next(a))?;
+            f.r = Node(x);
+            Some(go(f, Point::E22))
         }
         Point::E22 => {
-            let made = store(t, s, Word::Next(a), n.0);
+            store(t, s, Word::Next(a), n.0)?;
             f.c = n;
-            made.go(f, Point::E23)
+            Some(go(f, Point::E23))
         }
         Point::E23 => {
-            let x = load(t, s, Word::Next(c));
-            if x.value != 0 {
-                f.c.0 = x.value;
-                x.stay(f)
+            let x = load(t, s, Word::Next(c))?;
+            if x != 0 {
+                f.c = Node(x);
+                Some(After::Go(f))
             } else {
-                x.go(f, Point::E24)
+                Some(go(f, Point::E24))
             }
         }
-        Point::E24 => store(t, s, Word::Next(c), r.0).go(f, Point::E25),
+        Point::E24 => {
+            store(t, s, Word::Next(c), r.0)?;
+            Some(go(f, Point::E25))
+        }
         Point::E25 => {
-            let x = load(t, s, Word::Tail(q));
-            if x.value == a.0 {
-                x.go(f, Point::E26)
+            let x = load(t, s, Word::Tail(q))?;
+            if x == a.0 {
+                Some(go(f, Point::E26))
             } else {
-                x.go(f, Point::E28)
+                Some(go(f, Point::E28))
             }
         }
-        Point::E26 => store(t, s, Word::LevelNode(l), c.0).go(f, Point::E27),
-        Point::E27 => store(t, s, Word::Tail(q), c.0).go(f, Point::E28),
+        Point::E26 => {
+            store(t, s, Word::LevelNode(l), c.0)?;
+            Some(go(f, Point::E27))
+        }
+        Point::E27 => {
+            store(t, s, Word::Tail(q), c.0)?;
+            Some(go(f, Point::E28))
+        }
         // the level is done
-        Point::E28 => store(t, s, Word::LevelQueue(l), 0).go(f, Point::E29),
+        Point::E28 => {
+            store(t, s, Word::LevelQueue(l), 0)?;
+            Some(go(f, Point::E29))
+        }
         Point::E29 => {
-            let made = store(t, s, Word::LevelNode(l), 0);
+            store(t, s, Word::LevelNode(l), 0)?;
             if f.op == 1 {
-                made.ends(n)
+                Some(After::Done(n))
             } else {
-                made.go(f, Point::D1)
+                Some(go(f, Point::D1))
             }
         }
         // P: take the head out of the queue; the sentinel is handed in again, from E1 on
         Point::D1 => {
-            let x = load(t, s, Word::Head(q));
-            f.c.0 = x.value;
-            x.go(f, Point::D2)
+            let x = load(t, s, Word::Head(q))?;
+            f.c = Node(x);
+            Some(go(f, Point::D2))
         }
         Point::D2 => {
-            let x = load(t, s, Word::Tail(q));
-            if x.value == c.0 {
-                x.ends(Node(0))
+            let x = load(t, s, Word::Tail(q))?;
+            if x == c.0 {
+                Some(After::Done(Node(0)))
             } else {
-                x.go(f, Point::D3)
+                Some(go(f, Point::D3))
             }
         }
         Point::D3 => {
-            let x = load(t, s, Word::Next(c));
-            if x.value == 0 {
-                x.ends(Node(0))
+            let x = load(t, s, Word::Next(c))?;
+            if x == 0 {
+                Some(After::Done(Node(0)))
             } else {
-                x.go(f, Point::D4)
+                Some(go(f, Point::D4))
             }
         }
         Point::D4 => {
-            let x = load(t, s, Word::Next(c));
-            f.r.0 = x.value;
-            x.go(f, Point::D5)
+            let x = load(t, s, Word::Next(c))?;
+            f.r = Node(x);
+            Some(go(f, Point::D5))
         }
         Point::D5 => {
-            let made = store(t, s, Word::Head(q), r.0);
+            store(t, s, Word::Head(q), r.0)?;
             if c.0 == q.0 {
-                made.go(f, Point::D6)
+                Some(go(f, Point::D6))
             } else {
-                made.go(f, Point::D7)
+                Some(go(f, Point::D7))
             }
         }
         Point::D6 => {
-            let made = store(t, s, Word::Next(c), 0);
-            f.node.0 = q.0;
-            made.go(f, Point::E1)
+            store(t, s, Word::Next(c), 0)?;
+            f.node = Node(q.0);
+            Some(go(f, Point::E1))
         }
         Point::D7 => {
-            let made = store(t, s, Word::Next(c), 0);
+            store(t, s, Word::Next(c), 0)?;
             // the bench's own word, which rides on this step
-            store(t, s, Word::Use(c), 0);
-            made.ends(c)
+            store(t, s, Word::Use(c), 0)?;
+            Some(After::Done(c))
         }
-        _ => Turned::Stray,
+        _ => None,
     }
 }

@@ -1,6 +1,6 @@
 -- What the proofs of the call cite: dequeues that are run in pieces, and a copy on which they can begin.
 use Prim.Native.Nat.{ℕ, zero, suc, ◌+◌, ◌-◌, ◌*◌, ◌≤◌, ◌<◌}
-use Rattle.std.specs.Prelude.{◌≡◌, ◌≢◌, Bool, length, eqb, ltb}
+use Rattle.std.specs.Prelude.{◌≡◌, ◌≢◌, Bool, length, eqb, ltb, Some}
 use Rattle.std.proofs.Math.Path.{refl, ap}
 use Rattle.std.proofs.Common.{sym, ◌∙◌, mul-le-mul}
 use mathlib.Core.List.{List}
@@ -19,7 +19,6 @@ use Rattle.words.specs.Copies.{raised_frame, raised_idle, raised_length}
 use Rattle.answers.specs.declared.End.{End}
 use Rattle.answers.specs.Said.{Said, refused, says, going_on, ended, Run, after, an_end, spent, nothing_runs, refusal_10}
 use Rattle.table.specs.Points.{D1}
-use Rattle.steps.specs.declared.Served.TheVariants.{At}
 use Rattle.steps.specs.Step.{Out, serving, step_sized}
 use Rattle.steps.specs.Run.{ran_on, run_from}
 use Rattle.steps.proofs.Aside.{Aside, RanAside, ran_aside}
@@ -151,7 +150,7 @@ module _ {s : Sizes} {t : List ℕ} {l : Level} {q : Queue} (a : Alone s t l q) 
   put_aside f = record { long = put_length s t l f; others = λ k ne. frame_other s t l f k ne }
 
   -- the highest level is served once it runs
-  top_serves : (f : Frame) → f.op ≢ 0 → serving s (put_frame s t l f) s.levels ≡ At l
+  top_serves : (f : Frame) → f.op ≢ 0 → serving s (put_frame s t l f) s.levels ≡ Some l
   unfolding serving
   top_serves f runs =
       let one : s.levels ≡ suc l.0 = omega (arith, a.top) in

@@ -1,11 +1,9 @@
 -- The waiting count of a queue: how many nodes dequeues return, begun one after another and run uninterrupted at the new level of a copy
 -- of the table with one more idle level on top, until one says empty.
-use Rattle.std.specs.Prelude.{ℕ, zero, suc, ◌+◌, ◌*◌, List, cond, eqb}
+use Rattle.std.specs.Prelude.{ℕ, zero, suc, ◌+◌, ◌*◌, List, cond, eqb, Option, Some, None}
 use Rattle.words.specs.declared.Level.{Level}
 use Rattle.words.specs.declared.Queue.{Queue}
 use Rattle.words.specs.declared.Sizes.{Sizes}
-use Rattle.words.specs.declared.Measured.{Measured}
-use Rattle.words.specs.declared.Measured.TheVariants.{Sized, Unfit}
 use Rattle.words.specs.Layout.{level, measured}
 use Rattle.words.specs.Copy.{taller, raised}
 use Rattle.answers.specs.Said.{Said, refused, says, Step, going_on, ended}
@@ -46,9 +44,9 @@ unfoldable pub waiting_sized : Sizes → List ℕ → Queue → Said ℕ
 waiting_sized s t q =
     cond (no_queue s q) (refused 4) (cond (dequeued s t (level s.levels) q) (refused 8) (waiting_in s t q))
 
-unfoldable pub waiting_measured : List ℕ → Queue → Measured → Said ℕ
-waiting_measured t q Unfit = refused 1
-waiting_measured t q (Sized s) = waiting_sized s t q
+unfoldable pub waiting_measured : List ℕ → Queue → Option Sizes → Said ℕ
+waiting_measured t q None = refused 1
+waiting_measured t q (Some s) = waiting_sized s t q
 
 -- refusals 1, 4, 8, 10
 unfoldable pub waiting_of : List ℕ → Queue → Said ℕ

@@ -1,5 +1,5 @@
 -- What the calls give: the proofs of the functions that make one call cite these.
-use Rattle.std.specs.Prelude.{ℕ, ◌≡◌, Bool, true, false, cond, ◌&&◌, List, eqb}
+use Rattle.std.specs.Prelude.{ℕ, ◌≡◌, Bool, true, false, cond, ◌&&◌, List, eqb, Some, None}
 use Rattle.std.proofs.Math.Path.{refl}
 use Rattle.std.proofs.Common.{sym, ap, ◌∙◌, ne_eqb, eqb-true}
 use Rattle.std.proofs.lemmas.Bool.{false≢true, eqb-false}
@@ -7,7 +7,6 @@ use Rattle.words.specs.declared.Level.{Level}
 use Rattle.words.specs.declared.Queue.{Queue}
 use Rattle.words.specs.declared.Node.{Node}
 use Rattle.words.specs.declared.Sizes.{Sizes}
-use Rattle.words.specs.declared.Measured.TheVariants.{Sized, Unfit}
 use Rattle.words.specs.Layout.{measured, frame_of}
 use Rattle.answers.specs.Said.{Said, refused, says, Step}
 use Rattle.begins.specs.Begin.{unless, enqueue_why, enqueue_sized, enqueue_measured, enqueue_of}
@@ -19,7 +18,7 @@ use Rattle.steps.proofs.After.{Steady}
 use Rattle.ways.specs.declared.Op.{Op}
 use Rattle.ways.specs.Schedules.{accepts, tried, Tried, begun, stepped}
 
-module _ (s : Sizes) (t : List ℕ) (m : measured t ≡ Sized s) where
+module _ (s : Sizes) (t : List ℕ) (m : measured t ≡ Some s) where
   pub stepped_is : (u : List ℕ) (x : Said Step) → step_sized s t ≡ (x, u) → stepped t ≡ (accepts x, u)
   unfolding stepped
   stepped_is u x e = rw (step_is s t m, e) refl
@@ -36,16 +35,16 @@ module _ (s : Sizes) (t : List ℕ) (m : measured t ≡ Sized s) where
 
 -- the table keeps its sizes
 abbrev pub Begun : Sizes → List ℕ → Op → Bool → List ℕ → Type 0
-Begun s t o b u = (begun o t ≡ (b, u)) × (measured u ≡ Sized s)
+Begun s t o b u = (begun o t ≡ (b, u)) × (measured u ≡ Some s)
 
-pub begun_enqueue : (s : Sizes) (o : Op) (t u : List ℕ) → measured t ≡ Sized s → o.op ≡ 1
+pub begun_enqueue : (s : Sizes) (o : Op) (t u : List ℕ) → measured t ≡ Some s → o.op ≡ 1
     → enqueue_sized s t o.level o.queue o.node ≡ (says tt, u) → Begun s t o true u
 unfolding begun
 begun_enqueue s o t u m k e =
     let kept = enqueue_kept s t o.level o.queue o.node m in
     (rw (k, enqueue_is s t m o.level o.queue o.node, e) refl, rw e at kept)
 
-pub begun_dequeue : (s : Sizes) (o : Op) (t u : List ℕ) → measured t ≡ Sized s → o.op ≡ 2 → o.node.0 ≡ 0
+pub begun_dequeue : (s : Sizes) (o : Op) (t u : List ℕ) → measured t ≡ Some s → o.op ≡ 2 → o.node.0 ≡ 0
     → dequeue_sized s t o.level o.queue ≡ (says tt, u) → Begun s t o true u
 unfolding begun
 begun_dequeue s o t u m k z e =
@@ -60,7 +59,7 @@ begun_none : (o : Op) (t : List ℕ) → (o.op ≡ 1 → ⊥) → (o.op ≡ 2 �
 unfolding begun
 begun_none o t k z = rw (ne_eqb _ 1 k, ne_eqb _ 2 z) refl
 
-pub begun_unfit : (o : Op) (t : List ℕ) → measured t ≡ Unfit → begun o t ≡ (false, t)
+pub begun_unfit : (o : Op) (t : List ℕ) → measured t ≡ None → begun o t ≡ (false, t)
 unfolding begun enqueue_of enqueue_measured dequeue_of dequeue_measured
 begun_unfit o t m = rw m (by (eqb o.op 1) (eqb o.op 2 && eqb o.node.0 0))
   where
@@ -80,12 +79,12 @@ unless_accepts why t new = by (eqb why 0)
     by true = refl
     by false = refl
 
-enqueue_accepts : (s : Sizes) (t : List ℕ) (l : Level) (q : Queue) (n : Node) → measured t ≡ Sized s
+enqueue_accepts : (s : Sizes) (t : List ℕ) (l : Level) (q : Queue) (n : Node) → measured t ≡ Some s
     → accepts (enqueue_of t l q n).0 ≡ eqb (enqueue_why s t l q n) 0
 unfolding enqueue_sized
 enqueue_accepts s t l q n m = rw (enqueue_is s t m l q n) (unless_accepts (enqueue_why s t l q n) t _)
 
-dequeue_accepts : (s : Sizes) (t : List ℕ) (l : Level) (q : Queue) → measured t ≡ Sized s
+dequeue_accepts : (s : Sizes) (t : List ℕ) (l : Level) (q : Queue) → measured t ≡ Some s
     → accepts (dequeue_of t l q).0 ≡ eqb (dequeue_why s t l q) 0
 unfolding dequeue_sized
 dequeue_accepts s t l q m = rw (dequeue_is s t m l q) (unless_accepts (dequeue_why s t l q) t _)
@@ -98,11 +97,11 @@ may_2 : (o : Op) (t : List ℕ) → o.op ≡ 2 → o.node.0 ≡ 0 → (begun o t
 unfolding begun
 may_2 o t k z = rw (k, z) refl
 
-pub may_enqueue : (o : Op) (s : Sizes) (t : List ℕ) (w : ℕ) → o.op ≡ 1 → measured t ≡ Sized s
+pub may_enqueue : (o : Op) (s : Sizes) (t : List ℕ) (w : ℕ) → o.op ≡ 1 → measured t ≡ Some s
     → w ≡ enqueue_why s t o.level o.queue o.node → eqb w 0 ≡ (begun o t).0
 may_enqueue o s t w k m e = ap (λ (i : ℕ). eqb i 0) e ∙ sym (may_1 o t k ∙ enqueue_accepts s t o.level o.queue o.node m)
 
-pub may_dequeue : (o : Op) (s : Sizes) (t : List ℕ) (w : ℕ) → o.op ≡ 2 → o.node.0 ≡ 0 → measured t ≡ Sized s
+pub may_dequeue : (o : Op) (s : Sizes) (t : List ℕ) (w : ℕ) → o.op ≡ 2 → o.node.0 ≡ 0 → measured t ≡ Some s
     → w ≡ dequeue_why s t o.level o.queue → eqb w 0 ≡ (begun o t).0
 may_dequeue o s t w k z m e = ap (λ (i : ℕ). eqb i 0) e ∙ sym (may_2 o t k z ∙ dequeue_accepts s t o.level o.queue m)
 
@@ -113,7 +112,7 @@ pub may_none : (o : Op) (t : List ℕ) → (o.op ≡ 1 → ⊥) → (o.op ≡ 2 
 may_none o t k z = sym (ap (λ (x : Tried). x.0) (begun_none o t k z))
 
 -- an operation that would begin: no refusal is given
-pub accepted_enqueue : (o : Op) (s : Sizes) (t : List ℕ) → o.op ≡ 1 → measured t ≡ Sized s → (begun o t).0 ≡ true
+pub accepted_enqueue : (o : Op) (s : Sizes) (t : List ℕ) → o.op ≡ 1 → measured t ≡ Some s → (begun o t).0 ≡ true
     → enqueue_why s t o.level o.queue o.node ≡ 0
 accepted_enqueue o s t k m h = eqb-true _ 0 (may_enqueue o s t (enqueue_why s t o.level o.queue o.node) k m refl ∙ h)
 
@@ -131,7 +130,7 @@ accepted_nodeless o t k h = by (eqb o.node.0 0) refl
     by true e = eqb-true o.node.0 0 e
     by false e = absurd (false≢true (may_odd o t k (eqb-false o.node.0 0 e) ∙ h))
 
-pub accepted_dequeue : (o : Op) (s : Sizes) (t : List ℕ) → o.op ≡ 2 → o.node.0 ≡ 0 → measured t ≡ Sized s → (begun o t).0 ≡ true
+pub accepted_dequeue : (o : Op) (s : Sizes) (t : List ℕ) → o.op ≡ 2 → o.node.0 ≡ 0 → measured t ≡ Some s → (begun o t).0 ≡ true
     → dequeue_why s t o.level o.queue ≡ 0
 accepted_dequeue o s t k z m h = eqb-true _ 0 (may_dequeue o s t (dequeue_why s t o.level o.queue) k z m refl ∙ h)
 
@@ -145,7 +144,7 @@ unless_stays why t new = by (eqb why 0)
     by true h = absurd (false≢true (sym h))
     by false h = refl
 
-pub refused_stays : (o : Op) (s : Sizes) (t : List ℕ) → measured t ≡ Sized s → (begun o t).0 ≡ false → begun o t ≡ (false, t)
+pub refused_stays : (o : Op) (s : Sizes) (t : List ℕ) → measured t ≡ Some s → (begun o t).0 ≡ false → begun o t ≡ (false, t)
 unfolding begun enqueue_sized dequeue_sized
 refused_stays o s t m = by (eqb o.op 1) (eqb o.op 2 && eqb o.node.0 0)
   where
@@ -166,7 +165,7 @@ refused_stays o s t m = by (eqb o.op 1) (eqb o.op 2 && eqb o.node.0 0)
     by false false h = refl
 
 -- an operation that would begin still would after a step that goes on, and one that would not still would not
-pub begun_steady : (o : Op) (s : Sizes) (t u : List ℕ) → measured t ≡ Sized s → measured u ≡ Sized s → Steady s t u
+pub begun_steady : (o : Op) (s : Sizes) (t u : List ℕ) → measured t ≡ Some s → measured u ≡ Some s → Steady s t u
     → (begun o u).0 ≡ (begun o t).0
 unfolding begun
 begun_steady o s t u m n h = by (eqb o.op 1) (eqb o.op 2 && eqb o.node.0 0)

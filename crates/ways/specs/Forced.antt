@@ -1,7 +1,6 @@
 -- The ways on which nothing is to be chosen.
 use Rattle.std.specs.Prelude.{ℕ, zero, suc, ◌+◌, ◌≤◌, ◌<◌, ◌≡◌, true, cond, List, Option, Some, None}
 use Rattle.words.specs.declared.Sizes.{Sizes}
-use Rattle.words.specs.declared.Measured.TheVariants.{Sized}
 use Rattle.words.specs.Layout.{measured}
 use Rattle.ways.specs.declared.Op.{Op}
 use Rattle.ways.specs.Schedules.{stepped, begun, idle}
@@ -31,7 +30,7 @@ last_in o (suc left) t = cond (begun o t).0 (end_in left 0 (begun o t).1) None
 
 -- t is a table of these sizes
 abbrev pub TableOf : Sizes → List ℕ → Type 0
-TableOf s t = measured t ≡ Sized s
+TableOf s t = measured t ≡ Some s
 
 -- so many moves are left of all, and where there are any the operation is accepted
 abbrev pub Open : Op → Sizes → ℕ → ℕ → List ℕ → Type 0

@@ -1,13 +1,12 @@
 -- A stretch on which the next operation is refused, by runs: it is refused until one that runs has ended.
 use Prim.Native.Nat.{ℕ, zero, suc, ◌+◌, ◌-◌, ◌≤◌}
-use Rattle.std.specs.Prelude.{◌≡◌, Bool, eqb, Option, None}
+use Rattle.std.specs.Prelude.{◌≡◌, Bool, eqb, Option, Some, None}
 use Rattle.std.proofs.Math.Path.{refl, ap}
 use Rattle.std.proofs.Common.{sym, ◌∙◌, zero-add, sub-one}
 use Rattle.std.proofs.Math.Bool.{true, false, cond}
 use mathlib.Core.List.{List}
 use native.Mathlib.Omega.{arith}
 use Rattle.words.specs.declared.Sizes.{Sizes}
-use Rattle.words.specs.declared.Measured.TheVariants.{Sized}
 use Rattle.words.specs.Layout.{measured}
 use Rattle.words.specs.Laws.{measured_fits}
 use Rattle.answers.specs.declared.End.{End}
@@ -57,7 +56,7 @@ unfolding stretched
 stretch_step o left t h = rw h refl
 
 module _ (o : Op) (s : Sizes) where
-  run_stretch : (left k : ℕ) (t : List ℕ) → measured t ≡ Sized s → (begun o t).0 ≡ false
+  run_stretch : (left k : ℕ) (t : List ℕ) → measured t ≡ Some s → (begun o t).0 ≡ false
       → stretched o left t ≡ ran_stretch o (k + left) (run_from s left k t)
   unfolding run_from ran_on ran_stretch
   run_stretch zero k t m h = stretch_none o 0 t (omega arith)
@@ -67,7 +66,7 @@ module _ (o : Op) (s : Sizes) where
       ∙ by (step_sized s t) refl (step_kept s t m) (run_stretch left (k + 1))
     where
       by : (x : Out) → step_sized s t ≡ x → Kept s x
-          → ((u : List ℕ) → measured u ≡ Sized s → (begun o u).0 ≡ false
+          → ((u : List ℕ) → measured u ≡ Some s → (begun o u).0 ≡ false
           → stretched o left u ≡ ran_stretch o (k + 1 + left) (run_from s left (k + 1) u))
           → cond (accepts x.0) (stretched o left x.1) (0, x.1) ≡ ran_stretch o (k + suc left) (ran_on k (run_from s left) x.0 x.1)
       by (says going_on, u) e kept ih =
@@ -85,7 +84,7 @@ module _ (o : Op) (s : Sizes) where
           why false = refl
 
   -- by what a run leaves
-  pub stretch_ran : (left : ℕ) (t u : List ℕ) (b : Bool) (x : Said Run) → measured t ≡ Sized s → b ≡ (begun o t).0 → b ≡ false
+  pub stretch_ran : (left : ℕ) (t u : List ℕ) (b : Bool) (x : Said Run) → measured t ≡ Some s → b ≡ (begun o t).0 → b ≡ false
       → run_from s left 0 t ≡ (x, u) → stretched o left t ≡ ran_stretch o left (x, u)
   stretch_ran left t u b x m e h k =
       run_stretch left 0 t m (sym e ∙ h)
@@ -93,12 +92,12 @@ module _ (o : Op) (s : Sizes) where
       ∙ ap (ran_stretch o left) k
 
 -- nothing follows
-pub shut : (o : Op) (s : Sizes) (all : ℕ) (u : List ℕ) → measured u ≡ Sized s → Open o s all 0 u
+pub shut : (o : Op) (s : Sizes) (all : ℕ) (u : List ℕ) → measured u ≡ Some s → Open o s all 0 u
 shut o s all u m = (omega arith, m, λ h. absurd (omega (arith, h)))
 
 -- ---- a step where the operation is accepted
 
-module _ (o : Op) (s : Sizes) (t u : List ℕ) (m : measured t ≡ Sized s) where
+module _ (o : Op) (s : Sizes) (t u : List ℕ) (m : measured t ≡ Some s) where
   gone_step : (left : ℕ) (x : Said Step) → (left ≡ 0 → ⊥) → step_sized s t ≡ (x, u)
       → gone_on o left t ≡ cond (accepts x) (stretched o (left - 1) u) (0, u)
   unfolding gone_on
@@ -107,7 +106,7 @@ module _ (o : Op) (s : Sizes) (t u : List ℕ) (m : measured t ≡ Sized s) wher
 
   -- it is accepted still
   pub gone_going : (left : ℕ) → (begun o t).0 ≡ true → (left ≡ 0 → ⊥) → step_sized s t ≡ (says going_on, u)
-      → (gone_on o left t ≡ (left - 1, u)) × (measured u ≡ Sized s) × ((begun o u).0 ≡ true)
+      → (gone_on o left t ≡ (left - 1, u)) × (measured u ≡ Some s) × ((begun o u).0 ≡ true)
   gone_going left h z e =
       let kept = stepped_kept s t u (says going_on) m e in
       let steady = step_steady s t (measured_fits t s m).room u e in

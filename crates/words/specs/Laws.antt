@@ -12,7 +12,7 @@ use Rattle.words.specs.declared.Sizes.{Sizes}
 use Rattle.words.specs.declared.Frame.{Frame}
 use Rattle.words.specs.declared.Word.{Word}
 use Rattle.words.specs.declared.Word.TheVariants.{LevelNode, LevelQueue, Head, Tail, Next, Use}
-use Rattle.words.specs.declared.Measured.TheVariants.{Sized, Unfit}
+use Rattle.std.specs.Prelude.{Some, None}
 use Rattle.words.specs.Layout.{
   level,
   queue,
@@ -66,11 +66,11 @@ within_is from to x a b = simp (le-leb from x a, le-leb x to b)
 
 -- ---- sizes
 
-pub measured_agrees : (t : List ℕ) (s : Sizes) → measured t ≡ Sized s → (sizes_of t ≡ s) × (agrees s t ≡ true)
+pub measured_agrees : (t : List ℕ) (s : Sizes) → measured t ≡ Some s → (sizes_of t ≡ s) × (agrees s t ≡ true)
 unfolding measured
 measured_agrees t s e = by (agrees (sizes_of t) t) refl e
   where
-    by : (b : Bool) → agrees (sizes_of t) t ≡ b → cond b (Sized (sizes_of t)) Unfit ≡ Sized s → (sizes_of t ≡ s) × (agrees s t ≡ true)
+    by : (b : Bool) → agrees (sizes_of t) t ≡ b → cond b (Some (sizes_of t)) None ≡ Some s → (sizes_of t ≡ s) × (agrees s t ≡ true)
     by true h k = let z : sizes_of t ≡ s = cc in (z, rw z at h)
     by false h k = let z : ◌≡◌ {A = ℕ} 0 1 = cc in absurd (omega arith)
 
@@ -114,10 +114,10 @@ pub fits_is : (s : Sizes) (t : List ℕ) → limits s ≡ true → words s ≤ l
 fits_is s t h r =
     let p = limits_are s h in record { room = r; levels = omega arith; queues = omega arith; nodes = omega arith }
 
-pub measured_limits : (t : List ℕ) (s : Sizes) → measured t ≡ Sized s → Limits s
+pub measured_limits : (t : List ℕ) (s : Sizes) → measured t ≡ Some s → Limits s
 measured_limits t s e = limits_are s (agrees_parts s t (measured_agrees t s e).1).0
 
-pub measured_fits : (t : List ℕ) (s : Sizes) → measured t ≡ Sized s → Fits s t
+pub measured_fits : (t : List ℕ) (s : Sizes) → measured t ≡ Some s → Fits s t
 measured_fits t s e = let p = agrees_parts s t (measured_agrees t s e).1 in fits_is s t p.0 p.1
 
 -- the sizes fit a table of the same length
@@ -397,17 +397,17 @@ unfolding put_frame
 put_past s t l h f i p =
     sets_out (frame_words f) t (frame_at s l) i (λ j k e. omega (arith, frame_in s l h))
 
-pub measured_is : (t : List ℕ) (s : Sizes) → sizes_of t ≡ s → agrees s t ≡ true → measured t ≡ Sized s
+pub measured_is : (t : List ℕ) (s : Sizes) → sizes_of t ≡ s → agrees s t ≡ true → measured t ≡ Some s
 unfolding measured
-measured_is t s e h = subst (λ (x : Sizes). cond (agrees x t) (Sized x) Unfit ≡ Sized s) (sym e) (rw h)
+measured_is t s e h = subst (λ (x : Sizes). cond (agrees x t) (Some x) None ≡ Some s) (sym e) (rw h)
 
 -- a table of the same length and counts has the same sizes
-measured_same : (s : Sizes) (t u : List ℕ) → measured t ≡ Sized s → length u ≡ length t
+measured_same : (s : Sizes) (t u : List ℕ) → measured t ≡ Some s → length u ≡ length t
     → get_or u levels_at 0 ≡ get_or t levels_at 0
     → get_or u (queues_at s.levels) 0 ≡ get_or t (queues_at s.levels) 0
     → get_or u (nodes_at s.levels s.queues) 0 ≡ get_or t (nodes_at s.levels s.queues) 0
     → levels_again s u ≡ levels_again s t
-    → measured u ≡ Sized s
+    → measured u ≡ Some s
 unfolding agrees
 measured_same s t u e len a b c d =
     let m = measured_agrees t s e in
@@ -420,7 +420,7 @@ measured_same s t u e len a b c d =
     let ok : agrees s u ≡ true = simp (len, d) m.1 in
     measured_is u s is ok
 
-pub measured_wr : (s : Sizes) (t : List ℕ) (w : Word) (v : ℕ) → measured t ≡ Sized s → has s w ≡ true → measured (wr s t w v) ≡ Sized s
+pub measured_wr : (s : Sizes) (t : List ℕ) (w : Word) (v : ℕ) → measured t ≡ Some s → has s w ≡ true → measured (wr s t w v) ≡ Some s
 unfolding wr
 measured_wr s t w v e h =
     let k = addr_clear s w h in
@@ -431,7 +431,7 @@ measured_wr s t w v e h =
     (kept (nodes_at s.levels s.queues) (λ z. k.no_nodes (sym z)))
     (kept (frames_at s.levels s.queues s.nodes) (λ z. omega (arith, k.before)))
 
-pub measured_put : (s : Sizes) (t : List ℕ) (l : Level) (f : Frame) → measured t ≡ Sized s → measured (put_frame s t l f) ≡ Sized s
+pub measured_put : (s : Sizes) (t : List ℕ) (l : Level) (f : Frame) → measured t ≡ Some s → measured (put_frame s t l f) ≡ Some s
 unfolding put_frame
 measured_put s t l f e =
     let kept : (i : ℕ) → i < frame_at s l → get_or (sets t (frame_at s l) (frame_words f)) i 0 ≡ get_or t i 0 =
@@ -504,7 +504,7 @@ set_four t a b c d w x y z p q r l =
       at (set (set (set t a w) b x) c y) d z (simp length-set (omega arith)),
     )
 
-pub measured_counts : (s : Sizes) (t : List ℕ) → limits s ≡ true → words s ≤ length t → measured (put_counts s t) ≡ Sized s
+pub measured_counts : (s : Sizes) (t : List ℕ) → limits s ≡ true → words s ≤ length t → measured (put_counts s t) ≡ Some s
 unfolding put_counts agrees
 measured_counts s t lim room =
     let w =

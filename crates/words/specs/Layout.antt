@@ -1,13 +1,11 @@
 -- The table as a list of words: sections in a fixed order, each after its count. Only this crate knows where a word stands.
-use Rattle.std.specs.Prelude.{ℕ, ◌+◌, ◌-◌, ◌*◌, List, [], ◌∷◌, Bool, cond, ◌&&◌, length, get_or, set, ltb, leb, eqb}
+use Rattle.std.specs.Prelude.{ℕ, ◌+◌, ◌-◌, ◌*◌, List, [], ◌∷◌, Bool, cond, ◌&&◌, length, get_or, set, ltb, leb, eqb, Option, Some, None}
 use Rattle.std.proofs.lemmas.List.Edits.{sets}
 use Rattle.words.specs.declared.Level.{Level}
 use Rattle.words.specs.declared.Queue.{Queue}
 use Rattle.words.specs.declared.Node.{Node}
 use Rattle.words.specs.declared.Sizes.{Sizes}
 use Rattle.words.specs.declared.Frame.{Frame}
-use Rattle.words.specs.declared.Measured.{Measured}
-use Rattle.words.specs.declared.Measured.TheVariants.{Sized, Unfit}
 use Rattle.words.specs.declared.Word.{Word}
 use Rattle.words.specs.declared.Word.TheVariants.{LevelNode, LevelQueue, Head, Tail, Next, Use}
 
@@ -77,9 +75,9 @@ put_counts s t =
 unfoldable pub agrees : Sizes → List ℕ → Bool
 agrees s t = limits s && leb (words s) (length t) && eqb (levels_again s t) s.levels
 
--- a table's sizes; refusal 1 is given exactly when this is Unfit
-unfoldable pub measured : List ℕ → Measured
-measured t = cond (agrees (sizes_of t) t) (Sized (sizes_of t)) Unfit
+-- a table's sizes; refusal 1 is given exactly when there are none
+unfoldable pub measured : List ℕ → Option Sizes
+measured t = cond (agrees (sizes_of t) t) (Some (sizes_of t)) None
 
 -- whether a word is one of the table's: a level below L, a queue 1..Q, a node 1..N
 unfoldable pub has : Sizes → Word → Bool

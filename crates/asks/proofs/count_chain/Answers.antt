@@ -4,15 +4,17 @@ use Rattle.words.specs.Laws.{Bound, has_is}
 use Rattle.asks.specs.Laws.{counting_long, counting_above, counting_ended, counting_more}
 use borrow.Author.Rules.{rules}
 use Rattle.asks.proofs.count_chain.Goals as goal
+use Rattle.asks.proofs.count_chain.Goals.{then-left-eq0-via-then-left-eq0, then-left-eq0-via-else-left-eq0+then-s-from}
 
 pub loop-c-init : goal.loop-c-init
 loop-c-init c = (search rules, record { is = refl })
 
 pub returns-then-left-eq0 : goal.returns-then-left-eq0
-returns-then-left-eq0 c = counting_long c.loop-c.invariant.1 c.loop-c-test.true c.if-left-eq0.true
-
-pub returns-then-s-wide : goal.returns-then-s-wide
-returns-then-s-wide c = counting_above c.loop-c.invariant.1 c.loop-c-test.true (rw c.wide.ensures at c.if-s-wide.true)
+returns-then-left-eq0 c =
+    elim c.then-left-eq0.branch [
+      | then-left-eq0-via-then-left-eq0 w ↦ counting_long c.loop-c.invariant.1 c.loop-c-test.true w.if-left-eq0.true
+      | then-left-eq0-via-else-left-eq0+then-s-from w ↦ counting_above c.loop-c.invariant.1 c.loop-c-test.true (omega arith)
+    ]
 
 pub load-requires : goal.load-requires
 unfolding Bound

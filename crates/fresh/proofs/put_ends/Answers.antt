@@ -7,10 +7,6 @@ use Rattle.fresh.specs.Laws.{ended_more}
 use borrow.Author.Rules.{rules}
 use Rattle.fresh.proofs.put_ends.Goals as goal
 
-pub loop-i-init : goal.loop-i-init
-unfolding ended
-loop-i-init c = (search rules, search rules, refl)
-
 pub store-requires : goal.store-requires
 unfolding Bound
 store-requires c = record { fits = search rules; w_value = has_is _ _ (search rules) }
@@ -19,8 +15,12 @@ pub store-requires-in-loop-i : goal.store-requires-in-loop-i
 unfolding Bound
 store-requires-in-loop-i c = record { fits = search rules; w_value = has_is _ _ (search rules) }
 
+pub loop-i-init : goal.loop-i-init
+unfolding ended
+loop-i-init c = (refl, refl)
+
 pub loop-i-preserved : goal.loop-i-preserved
-loop-i-preserved c = (search rules, search rules, ended_more _ _ _ _ _ _ c.loop-i.invariant.2 c.store.ensures c.store-in-loop-i.ensures)
+loop-i-preserved c = (search rules, ended_more _ _ _ _ _ _ c.loop-i.invariant.1 c.store.ensures c.store-in-loop-i.ensures)
 
 pub returns : goal.returns
-returns c = let z : c.loop-i.i ≡ c.args.s.queues = omega arith in c.loop-i.invariant.2 ∙ ap (λ (i : ℕ). ended c.args.s i c.args.t.now) z
+returns c = let z : c.loop-i.i ≡ c.args.s.queues = omega arith in c.loop-i.invariant.1 ∙ ap (λ (i : ℕ). ended c.args.s i c.args.t.now) z
