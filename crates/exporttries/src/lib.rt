@@ -10,7 +10,7 @@ ghost use Rattle.exporttries.specs.Reply.{packed, tried_out, number_out};
 fn pack(value: u16, code: u16) -> u32
     ensures { result ≡ packed value code }
 {
-    value as u32 + 65536 * (code as u32)
+    u32::from(value) + 65536 * u32::from(code)
 }
 
 #[unsafe(no_mangle)]
@@ -27,10 +27,10 @@ pub extern "C" fn exports_try_schedules(
 {
     match tries::try_schedules(levels, queues, nodes, ops, bound, room) {
         Ok(tried) => {
-            *told = [tried.count as u64, tried.bytes as u64];
+            *told = [u64::from(tried.count), tried.bytes as u64];
             pack(u16::from(tried.more), 0)
         }
-        Err(r) => pack(0, r),
+        Err(r) => pack(0, u16::from(r)),
     }
 }
 
@@ -49,6 +49,6 @@ pub extern "C" fn exports_count_schedules(
             *told = [n];
             pack(0, 0)
         }
-        Err(r) => pack(0, r),
+        Err(r) => pack(0, u16::from(r)),
     }
 }

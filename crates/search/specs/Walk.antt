@@ -1,5 +1,5 @@
 -- The schedules listed one after another, as the explorers do it.
-use Rattle.std.specs.Prelude.{ℕ, ◌+◌, ◌*◌, ◌≤◌, ◌<◌, ◌≡◌, Bool, true, false, cond, List, [], ◌∷◌, ◌++◌, leb, length, Option, Some, None}
+use Rattle.std.specs.Prelude.{ℕ, ◌+◌, ◌-◌, ◌*◌, ◌≤◌, ◌<◌, ◌≡◌, Bool, true, false, cond, List, [], ◌∷◌, ◌++◌, leb, length, take, Option, Some, None}
 use Rattle.std.proofs.lemmas.List.Edits.{sets}
 use Rattle.words.specs.declared.Sizes.{Sizes}
 use Rattle.words.specs.Layout.{limits, words}
@@ -98,6 +98,13 @@ asks w a =
 -- the sizes are within the limits, and at most six operations have their words
 abbrev pub Given : ℕ → Asked → Type 0
 Given ws a = (limits (sizes_of a) ≡ true) × (a.operations ≤ 6) × (4 * a.operations ≤ ws)
+
+-- the operations that remain at a spot, and these schedules listed after the counts that stand before it
+abbrev pub ops_at : Asked → List ℕ → Spot → List Op
+ops_at a ws at = ops_in (a.operations - at.i) ws at.i
+
+abbrev pub listing_at : Asked → List ℕ → Spot → List (List Move) → State → State
+listing_at a ws at = listing a ws (take at.i at.path) at.n
 
 -- what is lent stays what it is, and as long as it is
 pub record Kept (x y : Listing) : Type 0 where

@@ -2,9 +2,9 @@
 // with the moves that remain falling. Where there is a choice the table is saved by value.
 #![tactic(auto)]
 
-ghost use Rattle.std.specs.Prelude.{◌≡◌, true, ◌+◌, ◌-◌, ◌≤◌, ◌<◌, length, take, leb};
+ghost use Rattle.std.specs.Prelude.{◌≡◌, true, ◌+◌, ◌≤◌, ◌<◌, length, take, leb};
 ghost use Rattle.words.specs.Layout.{words};
-ghost use Rattle.ways.specs.Schedules.{op_in, ops_in, begun, by_step, by_begin};
+ghost use Rattle.ways.specs.Schedules.{op_in, begun, by_step, by_begin};
 ghost use Rattle.ways.specs.Forced.{TableOf};
 ghost use Rattle.search.specs.declared.What.TheVariants.{Measure, Write};
 ghost use Rattle.search.specs.Walk.{
@@ -15,7 +15,8 @@ ghost use Rattle.search.specs.Walk.{
   entered,
   emitted,
   tailed,
-  listing,
+  ops_at,
+  listing_at,
   state_of,
   Kept,
   Given,
@@ -100,9 +101,9 @@ impl Asked {
         ensures { result ≡ sizes_of self.now }
     {
         Sizes {
-            levels: words::wide(self.levels),
-            queues: words::wide(self.queues),
-            nodes: words::wide(self.nodes),
+            levels: usize::from(self.levels),
+            queues: usize::from(self.queues),
+            nodes: usize::from(self.nodes),
         }
     }
 
@@ -248,8 +249,8 @@ impl Search<'_> {
     pub fn explore_step<const N: usize>(&self, t: &mut [u16], at: Spot, out: &mut Listing<'_>)
         requires exploring { Exploring N (length t.old) (length out.old.copy.now) self.now.asked at }
         requires table_of { TableOf (sizes_of self.now.asked) t.old × ((begun (op_in self.now.ops.now at.i) t.old).0 ≡ true) }
-        ensures value { listing self.now.asked self.now.ops.now (take at.i at.path) at.n
-            (by_step at.left t.old (ops_in (self.now.asked.operations - at.i) self.now.ops.now at.i)) (state_of out.old) ≡ state_of out.new }
+        ensures value { listing_at self.now.asked self.now.ops.now at
+            (by_step at.left t.old (ops_at self.now.asked self.now.ops.now at)) (state_of out.old) ≡ state_of out.new }
         ensures kept { Kept out.old out.new }
     {
         if !out.listed.is_open() {
@@ -283,8 +284,8 @@ impl Search<'_> {
     fn explore_saved<const N: usize>(&self, t: &[u16], at: Spot, out: &mut Listing<'_>)
         requires exploring { Exploring N (length t.now) (length out.old.copy.now) self.now.asked at }
         requires table_of { TableOf (sizes_of self.now.asked) t.now × ((begun (op_in self.now.ops.now at.i) t.now).0 ≡ true) }
-        ensures value { listing self.now.asked self.now.ops.now (take at.i at.path) at.n
-            (by_step at.left t.now (ops_in (self.now.asked.operations - at.i) self.now.ops.now at.i)) (state_of out.old) ≡ state_of out.new }
+        ensures value { listing_at self.now.asked self.now.ops.now at
+            (by_step at.left t.now (ops_at self.now.asked self.now.ops.now at)) (state_of out.old) ≡ state_of out.new }
         ensures kept { Kept out.old out.new }
     {
         let mut saved = [0u16; N];
@@ -299,8 +300,8 @@ impl Search<'_> {
     pub fn explore_begin<const N: usize>(&self, t: &mut [u16], at: Spot, out: &mut Listing<'_>)
         requires exploring { Exploring N (length t.old) (length out.old.copy.now) self.now.asked at }
         requires table_of { TableOf (sizes_of self.now.asked) t.old }
-        ensures value { listing self.now.asked self.now.ops.now (take at.i at.path) at.n
-            (by_begin at.left t.old (ops_in (self.now.asked.operations - at.i) self.now.ops.now at.i)) (state_of out.old) ≡ state_of out.new }
+        ensures value { listing_at self.now.asked self.now.ops.now at
+            (by_begin at.left t.old (ops_at self.now.asked self.now.ops.now at)) (state_of out.old) ≡ state_of out.new }
         ensures kept { Kept out.old out.new }
     {
         if at.left == 0 {

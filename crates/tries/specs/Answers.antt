@@ -1,25 +1,25 @@
 -- What the proofs of the public calls cite.
 use Prim.Native.Nat.{ℕ, zero, suc, ◌≤◌, ◌<◌, ◌/◌}
-use Rattle.std.specs.Prelude.{◌≡◌, Bool, true, false, cond, ◌&&◌, length, replicate, take, drop, ltb, Option}
+use Rattle.std.specs.Prelude.{◌≡◌, Bool, true, false, cond, ◌&&◌, length, replicate, take, drop, ltb, Option, None}
 use Rattle.std.proofs.Math.Path.{refl, ap}
 use Rattle.std.proofs.Common.{sym, ◌∙◌, arith}
 use Rattle.std.proofs.Math.Bool.{and-eq-true_iff}
 use mathlib.Core.List.{List, [], ◌++◌, append-nil}
 use Rattle.std.proofs.lemmas.List.{length-replicate}
 use Rattle.std.proofs.Math.Seq.{drop-length}
-use borrow.Author.Tests.{lt-ltb, le-ltb, ltb-false, ne_eqb}
+use borrow.Author.Tests.{lt-ltb, le-ltb, ltb-false}
 use Rattle.words.specs.declared.Sizes.{Sizes}
 use Rattle.words.specs.declared.Frame.{Frame}
 use Rattle.words.specs.Layout.{level, limits, within, words, put_counts, frame_of}
 use Rattle.words.specs.Laws.{within_high}
-use Rattle.answers.specs.Said.{Said, refused, says}
+use Rattle.answers.specs.declared.Refusal.{Refusal}
+use Rattle.answers.specs.Said.{Said, refused, says, number}
 use Rattle.fresh.specs.Fresh.{cleared, ended, fresh_table, fresh_of}
 use Rattle.fresh.specs.Laws.{fresh_measured, fresh_frame}
-use Rattle.steps.specs.declared.Served.TheVariants.{Nobody}
 use Rattle.steps.specs.Step.{serving, step_served, step_sized}
 use Rattle.ways.specs.Schedules.{ops_in, Tried, stepped, by_step, by_begin, both, most_moves, fresh, schedules}
 use Rattle.ways.specs.Forced.{end_in, TableOf}
-use Rattle.ways.specs.Calls.{stepped_is}
+use Rattle.ways.specs.Calls.{stepped_is, numbered}
 use Rattle.search.specs.declared.Asked.{Asked}
 use Rattle.search.specs.Walk.{sizes_of, State, tailed, listing, none, listed_of}
 use Rattle.search.proofs.Laws.{listing_append, tail_is, step_stop}
@@ -103,7 +103,7 @@ module _ (s : Sizes) (lim : limits s ≡ true) where
   fresh_table_holds = fresh_measured s (replicate (words s) 0) lim zeros_room
 
   -- nothing runs
-  fresh_serves : (n : ℕ) → n ≤ s.levels → serving s (fresh s) n ≡ Nobody
+  fresh_serves : (n : ℕ) → n ≤ s.levels → serving s (fresh s) n ≡ None
   unfolding serving
   fresh_serves zero h = refl
   fresh_serves (suc n) h =
@@ -147,18 +147,18 @@ module _ (l q n : ℕ) (ws : List ℕ) where
   abbrev first_why : ℕ
   first_why = why (sizes l q n) (length ws / 4)
 
-  module _ (r : ℕ) (is : first_why ≡ r) (refuses : r ≡ 0 → ⊥) where
-    pub try_refused : (bound : ℕ) (room : List ℕ) → tries_of l q n ws bound room ≡ (refused r, room)
+  module _ (r : Refusal) (is : first_why ≡ number r) where
+    pub try_refused : (bound : ℕ) (room : List ℕ) → tries_of l q n ws bound room ≡ (refused (number r), room)
     unfolding tries_of
-    try_refused bound room = rw (is, ne_eqb r 0 refuses) refl
+    try_refused bound room = rw (is, ← numbered r) refl
 
-    pub number_refused : number_of l q n ws ≡ refused r
+    pub number_refused : number_of l q n ws ≡ refused (number r)
     unfolding number_of
-    number_refused = rw (is, ne_eqb r 0 refuses) refl
+    number_refused = rw (is, ← numbered r) refl
 
     pub tallies_refused : (ts : List ℕ) → tallies_of l q n ws ts ≡ ts
     unfolding tallies_of
-    tallies_refused ts = rw (is, ne_eqb r 0 refuses) refl
+    tallies_refused ts = rw (is, ← numbered r) refl
 
   module _ (none : first_why ≡ 0) where
     pub try_on : (bound : ℕ) (room : List ℕ) (out : Answer) → listed_in (texts (sizes l q n) (operations ws)) bound room ≡ out

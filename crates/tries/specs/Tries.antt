@@ -3,7 +3,8 @@ use Rattle.std.specs.Prelude.{ℕ, zero, suc, ◌/◌, Bool, true, false, cond, 
 use Rattle.std.proofs.lemmas.List.Edits.{sets}
 use Rattle.words.specs.declared.Sizes.{Sizes}
 use Rattle.words.specs.Layout.{limits}
-use Rattle.answers.specs.Said.{Said, refused, says}
+use Rattle.answers.specs.declared.Refusal.{Refusal}
+use Rattle.answers.specs.Said.{Said, refused, says, number, answer_says}
 use Rattle.ways.specs.declared.Op.{Op}
 use Rattle.ways.specs.Schedules.{Move, ops_in, schedules}
 use Rattle.entries.specs.Texts.{counts, schedule_text}
@@ -41,9 +42,9 @@ why s operations = cond (ltb 6 operations) 14 (cond (ltb 1024 s.nodes) 2 (cond (
 abbrev pub Answer : Type 0
 Answer = Said (ℕ × (ℕ × Bool)) × List ℕ
 
-abbrev pub tried_says : Result Tried ℕ → Said (ℕ × (ℕ × Bool))
+abbrev pub tried_says : Result Tried Refusal → Said (ℕ × (ℕ × Bool))
 tried_says (Ok x) = says (x.count, (x.bytes, x.more))
-tried_says (Err r) = refused r
+tried_says (Err r) = refused (number r)
 
 -- the first texts as far as the bound, one after another; 12 where the room is too small for them
 unfoldable pub listed_in : List (List ℕ) → ℕ → List ℕ → Answer
@@ -58,9 +59,8 @@ tries_of l q n ws bound room =
 
 -- ---- their number
 
-abbrev pub number_says : Result ℕ ℕ → Said ℕ
-number_says (Ok n) = says n
-number_says (Err r) = refused r
+abbrev pub number_says : Result ℕ Refusal → Said ℕ
+number_says = answer_says
 
 unfoldable pub number_of : ℕ → ℕ → ℕ → List ℕ → Said ℕ
 number_of l q n ws =

@@ -1,8 +1,9 @@
 // The schedules of a few operations, listed as text or counted.
 #![tactic(auto)]
 
-ghost use Rattle.std.specs.Prelude.{◌≡◌, ◌≢◌, true, ◌≤◌, ◌/◌, length, MatchResult};
+ghost use Rattle.std.specs.Prelude.{◌≡◌, true, ◌≤◌, ◌/◌, length, MatchResult};
 ghost use Rattle.words.specs.Layout.{limits, words};
+ghost use Rattle.answers.specs.Said.{number};
 ghost use Rattle.ways.specs.Schedules.{fresh, schedules};
 ghost use Rattle.search.specs.declared.What.TheVariants.{Tally};
 ghost use Rattle.search.specs.Walk.{sizes_of, ops_of, listed_of};
@@ -22,6 +23,7 @@ ghost use Rattle.tries.specs.Tries.{
 ghost use Rattle.tries.specs.Listed.{short};
 ghost use Rattle.tries.specs.Number.{Counts, Counting};
 
+use answers::Refusal;
 use search::{Asked, Listed, Listing, SMALL, Search, Spot, Stop, WORDS, What};
 
 // Schedules listed and bytes written, and whether there are more.
@@ -40,7 +42,8 @@ fn make_fresh(t: &mut [u16], asked: Asked)
     requires { (limits (sizes_of asked) ≡ true) × (length t.old ≡ words (sizes_of asked)) }
     ensures { t.new ≡ fresh (sizes_of asked) }
 {
-    fresh::fresh_table(t, asked.levels, asked.queues, asked.nodes);
+    // it is not refused
+    let _ = fresh::fresh_table(t, asked.levels, asked.queues, asked.nodes);
 }
 
 // Every schedule of the operations from a fresh table, which has at most N words.
@@ -118,13 +121,13 @@ fn is_short(search: Search<'_>, room: &mut [u8]) -> bool
 }
 
 // The texts in the room; nothing is written where it is too small.
-fn list_texts(search: Search<'_>, room: &mut [u8]) -> Result<Tried, u16>
+fn list_texts(search: Search<'_>, room: &mut [u8]) -> Result<Tried, Refusal>
     requires { search.asked.bound ≤ 4294967295 }
-    ensures { listed_in (texts (sizes_of search.entry.asked) (ops_of search.entry.asked search.entry.ops.now)) search.entry.asked.bound room.old
-        ≡ (tried_says result, room.new) }
+    ensures { let a = search.entry.asked in
+        listed_in (texts (sizes_of a) (ops_of a search.entry.ops.now)) a.bound room.old ≡ (tried_says result, room.new) }
 {
     if is_short(search, room) {
-        return Err(12);
+        return Err(Refusal::Room);
     }
     let asked = Asked {
         what: What::Write,
@@ -153,11 +156,12 @@ fn ask(
     ops: &[u16],
     bound: u64,
     what: What,
-) -> Result<Search<'_>, u16>
-    ensures { MatchResult result
-        (λ s. (s.asked ≡ record { levels = levels; queues = queues; nodes = nodes; operations = length ops.now / 4; bound = bound; what = what })
-        × (s.ops.now ≡ ops.now) × (why (sizes levels queues nodes) (length ops.now / 4) ≡ 0))
-        (λ r. (why (sizes levels queues nodes) (length ops.now / 4) ≡ r) × (r ≢ 0)) }
+) -> Result<Search<'_>, Refusal>
+    ensures { let k = length ops.now / 4 in let first = why (sizes levels queues nodes) k in
+        MatchResult result
+        (λ s. (s.asked ≡ record { levels = levels; queues = queues; nodes = nodes; operations = k; bound = bound; what = what })
+        × (s.ops.now ≡ ops.now) × (first ≡ 0))
+        (λ r. first ≡ number r) }
 {
     let asked = Asked {
         levels,
@@ -168,10 +172,10 @@ fn ask(
         what,
     };
     if 6 < asked.operations {
-        return Err(14);
+        return Err(Refusal::Many);
     }
     if !words::in_limits(asked.sizes()) {
-        return Err(2);
+        return Err(Refusal::Sizes);
     }
     Ok(Search { asked, ops })
 }
@@ -184,10 +188,10 @@ pub fn try_schedules(
     ops: &[u16],
     bound: u32,
     room: &mut [u8],
-) -> Result<Tried, u16>
+) -> Result<Tried, Refusal>
     ensures { tries_of levels queues nodes ops.now bound room.old ≡ (tried_says result, room.new) }
 {
-    let search = ask(levels, queues, nodes, ops, bound as u64, What::Write)?;
+    let search = ask(levels, queues, nodes, ops, u64::from(bound), What::Write)?;
     list_texts(search, room)
 }
 
@@ -197,10 +201,9 @@ pub const UNBOUND: u64 = 18446744073709551615;
 // How many schedules there are; their outcomes are counted too, where that is asked.
 fn count_all(search: Search<'_>, tallies: &mut [u64]) -> u64
     requires { Counting search.asked }
-    ensures value { result ≡ length (schedules (sizes_of search.entry.asked) (ops_of search.entry.asked search.entry.ops.now)) }
-    ensures tallies_after { search.entry.asked.what ≡ Tally
-        → tallies.new ≡ tallied_all (sizes_of search.entry.asked) search.entry.ops.now search.entry.asked.operations
-        (schedules (sizes_of search.entry.asked) (ops_of search.entry.asked search.entry.ops.now)) tallies.old }
+    ensures value { let a = search.entry.asked in result ≡ length (schedules (sizes_of a) (ops_of a search.entry.ops.now)) }
+    ensures tallies_after { let a = search.entry.asked in let ws = search.entry.ops.now in
+        a.what ≡ Tally → tallies.new ≡ tallied_all (sizes_of a) ws a.operations (schedules (sizes_of a) (ops_of a ws)) tallies.old }
 {
     list_all(search, &mut [], tallies).count
 }
@@ -212,7 +215,7 @@ fn count_as(
     nodes: u16,
     ops: &[u16],
     tallies: &mut [u64],
-) -> Result<u64, u16>
+) -> Result<u64, Refusal>
     requires { Counts what }
     ensures ops_value { number_of levels queues nodes ops.now ≡ number_says result }
     ensures tallies_value { what ≡ Tally → tallies_of levels queues nodes ops.now tallies.old ≡ tallies.new }
@@ -222,7 +225,7 @@ fn count_as(
 }
 
 // How many schedules there are.
-pub fn count_schedules(levels: u16, queues: u16, nodes: u16, ops: &[u16]) -> Result<u64, u16>
+pub fn count_schedules(levels: u16, queues: u16, nodes: u16, ops: &[u16]) -> Result<u64, Refusal>
     ensures { number_of levels queues nodes ops.now ≡ number_says result }
 {
     count_as(What::Count, levels, queues, nodes, ops, &mut [])
@@ -235,7 +238,7 @@ pub fn tally_schedules(
     nodes: u16,
     ops: &[u16],
     tallies: &mut [u64],
-) -> Result<u64, u16>
+) -> Result<u64, Refusal>
     ensures { tally_of levels queues nodes ops.now tallies.old ≡ (number_says result, tallies.new) }
 {
     count_as(What::Tally, levels, queues, nodes, ops, tallies)

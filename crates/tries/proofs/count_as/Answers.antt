@@ -6,12 +6,12 @@ use Rattle.tries.proofs.count_as.Goals as goal
 pub returns-in_err-search-clause-ops_value : goal.returns-in_err-search-clause-ops_value
 returns-in_err-search-clause-ops_value c =
     let told = c.in_err-search.ensures in
-    let said = number_refused c.args.levels c.args.queues c.args.nodes c.args.ops.now _ told.0 told.1 in
+    let said = number_refused c.args.levels c.args.queues c.args.nodes c.args.ops.now _ told in
     search (rules, said)
 
 pub returns-in_err-search-clause-tallies_value : goal.returns-in_err-search-clause-tallies_value
 returns-in_err-search-clause-tallies_value c =
-    let told = c.in_err-search.ensures in λ w. tallies_refused _ _ _ _ _ told.0 told.1 _
+    let told = c.in_err-search.ensures in λ w. tallies_refused _ _ _ _ _ told _
 
 pub count_all-requires : goal.count_all-requires
 count_all-requires c = rw c.in_ok-search.ensures.0 (c.requires, refl)

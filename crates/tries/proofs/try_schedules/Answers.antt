@@ -6,7 +6,7 @@ use Rattle.tries.proofs.try_schedules.Goals as goal
 pub returns-in_err-search : goal.returns-in_err-search
 returns-in_err-search c =
     let told = c.in_err-search.ensures in
-    let said = try_refused c.args.levels c.args.queues c.args.nodes c.args.ops.now _ told.0 told.1 c.args.bound c.args.room.now in
+    let said = try_refused c.args.levels c.args.queues c.args.nodes c.args.ops.now _ told c.args.bound c.args.room.now in
     search (rules, said)
 
 pub list_texts-requires : goal.list_texts-requires
