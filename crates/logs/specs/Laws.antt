@@ -1,12 +1,14 @@
 -- What the proofs of the log cite.
-use Rattle.std.specs.Prelude.{ℕ, zero, suc, ◌+◌, ◌-◌, ◌≤◌, ◌<◌, Bool, true, false, Option, Some, None, cond, take, drop, replicate, ltb}
+use Rattle.std.specs.Prelude.{ℕ, zero, suc, ◌+◌, ◌≤◌, ◌<◌, Bool, true, false, Option, Some, None, cond, take, drop, replicate, ltb}
 use Rattle.std.proofs.Math.Path.{◌≡◌, refl, sym, ap}
 use Rattle.std.proofs.Common.{◌∙◌, arith, add-one, add-zero, append-nil, append_assoc, length-append}
 use mathlib.Core.List.{List, [], ◌∷◌, ◌++◌}
 use Rattle.std.proofs.Math.ListN.{length}
+use Rattle.std.specs.Option.{ok_or}
 use borrow.Author.Tests.{lt-ltb, le-ltb}
 use Rattle.words.specs.declared.Queue.{Queue}
-use Rattle.answers.specs.Said.{Said, refused, says}
+use Rattle.answers.specs.declared.Refusal.TheVariants.{Room}
+use Rattle.answers.specs.Said.{Said, refused, says, answer_says}
 use Rattle.text.specs.declared.Opening.{Opening}
 use Rattle.text.specs.declared.Event.{Event}
 use Rattle.text.specs.Answer.{Answer, gives, refuses, onto}
@@ -16,7 +18,7 @@ use Rattle.schedule.specs.Whole.{rest_by, check_by, events_reading, schedule_rea
 use Rattle.asks.specs.Listing.{listing_of}
 use Rattle.loglines.specs.Lines.{text_line, sizes_line, queue_line, unquiet_line}
 use Rattle.loglines.specs.declared.Pen.{Pen}
-use Rattle.loglines.specs.Ink.{Page, page, ink, Writes}
+use Rattle.loglines.specs.Ink.{Page, ink, Writes}
 use Rattle.loglines.specs.Laws.{ink_then, ink_all, writes_none, writes_then}
 use Rattle.fresh.specs.Fresh.{fresh_of}
 use Rattle.play.specs.Parts.{into, at_place}
@@ -197,6 +199,12 @@ module _ (kind : Kind) (text t room : List ℕ) (roomy : room_of kind ≤ length
       let at : ◌≡◌ {A = Option ℕ} (Some (length (log_text kind text t).0)) None = ap (λ y. y.0.0) (sym inked ∙ e) in
       let z : ◌≡◌ {A = ℕ} 0 1 = cc in
       omega arith
+
+  -- that the room is full is answered as refusal 12, but never met
+  pub log_written : {after u : List ℕ} (at : Option ℕ) → largest ≤ length t → into (Some 0, room) (log_text kind text t) ≡ ((at, after), u)
+      → log_of kind text t room ≡ ((answer_says (ok_or at Room), after), u)
+  log_written (Some n) long e = log_laid long e
+  log_written None long e = absurd (never_full e)
 
 -- the bytes that are answered are in the room
 pub log_within : (kind : Kind) (text t room after u : List ℕ) (n : ℕ) → log_of kind text t room ≡ ((says n, after), u) → n ≤ length after

@@ -14,7 +14,6 @@ use Rattle.loglines.specs.Lines.{text_line, sizes_line, line_of, queue_line, unq
 use Rattle.play.specs.Play.{events_of}
 use Rattle.logs.specs.declared.Kind.{Kind}
 use Rattle.logs.specs.declared.Kind.TheVariants.{Plain, Bounds}
-use Rattle.logs.specs.declared.Logged.{Logged}
 
 -- `Q queue` and its listing, or `U queue`
 unfoldable pub listed_line : ℕ → Said ℕ × List ℕ → List ℕ
@@ -77,8 +76,3 @@ unfoldable pub log_of : Kind → List ℕ → List ℕ → List ℕ → (Said �
 log_of kind text t room =
     cond (ltb (length t) largest) ((refused 1, room), t)
     (cond (ltb (length room) (room_of kind)) ((refused 12, room), t) (put_log (log_text kind text t) room))
-
--- which of these each answer of the code is
-abbrev pub log_says : Logged → Said ℕ
-log_says (Logged.Bytes n) = says n
-log_says (Logged.Refused r) = refused r

@@ -2,6 +2,7 @@
 #![tactic(auto)]
 
 ghost use Rattle.std.specs.Prelude.{◌≡◌};
+ghost use Rattle.answers.specs.Said.{answer_says};
 ghost use Rattle.loglines.specs.Ink.{Writes};
 ghost use Rattle.fresh.specs.Fresh.{fresh_of};
 ghost use Rattle.play.specs.Parts.{into, Plays};
@@ -12,12 +13,11 @@ ghost use Rattle.logs.specs.Log.{
   beside_of,
   log_text,
   room_of,
-  log_says,
   log_of,
 };
 ghost use Rattle.logs.specs.Parts.{placed_log};
 
-use answers::{Counted, Done};
+use answers::Refusal;
 use loglines::Pen;
 use text::{BadLine, Opening};
 use words::Queue;
@@ -27,13 +27,6 @@ use words::Queue;
 pub enum Kind {
     Plain,
     Bounds,
-}
-
-// The log's length; or the refusal of a table or a room that is too small.
-#[derive(Clone, Copy)]
-pub enum Logged {
-    Bytes(usize),
-    Refused(u16),
 }
 
 // The words of the largest table, and the bytes that every log of its kind fits.
@@ -70,8 +63,8 @@ fn write_queue(table: &[u16], pen: &mut Pen, q: Queue)
 {
     let mut nodes = [0u16; 1024];
     match asks::listing(table, q, &mut nodes) {
-        Counted::Are(n) => pen.put_queue(q, &nodes[..usize::from(n)]),
-        Counted::Refused(_) => pen.put_unquiet(q),
+        Ok(n) => pen.put_queue(q, &nodes[..usize::from(n)]),
+        Err(_) => pen.put_unquiet(q),
     }
 }
 
@@ -88,11 +81,11 @@ fn write_played(kind: Kind, text: &[u8], place: usize, o: Opening, table: &mut [
     ensures { Plays pen.old pen.new (placed_log kind o text.now place (fresh_of (opening_sizes o) table.old)) table.new }
 {
     match fresh::fresh_table(table, o.levels, o.queues, o.nodes) {
-        Done::Yes => {
+        Ok(()) => {
             play::play_events(text, place, o.events, table, pen, kind.bound_nodes(o.nodes));
             write_queues(table, pen, o.queues);
         }
-        Done::Refused(_) => pen.put(b"R 0 2\n"),
+        Err(_) => pen.put(b"R 0 2\n"),
     }
 }
 
@@ -115,19 +108,22 @@ fn write_from_start(kind: Kind, text: &[u8], table: &mut [u16], room: &mut [u8])
     pen.at
 }
 
-// Writes the log of a schedule's text into the room, and answers its length. The table is for its work.
-pub fn write_log(kind: Kind, text: &[u8], table: &mut [u16], room: &mut [u8]) -> Logged
-    ensures { log_of kind text.now table.old room.old ≡ ((log_says result, room.new), table.new) }
+// Writes the log of a schedule's text into the room, and answers its length; a table or a room that is too small is refused. The table is
+// for its work.
+pub fn write_log(
+    kind: Kind,
+    text: &[u8],
+    table: &mut [u16],
+    room: &mut [u8],
+) -> Result<usize, Refusal>
+    ensures { log_of kind text.now table.old room.old ≡ ((answer_says result, room.new), table.new) }
 {
     if table.len() < TABLE {
-        return Logged::Refused(1);
+        return Err(Refusal::Table);
     }
     if room.len() < kind.room() {
-        return Logged::Refused(12);
+        return Err(Refusal::Room);
     }
-    match write_from_start(kind, text, table, room) {
-        Some(n) => Logged::Bytes(n),
-        // never: every log fits its room
-        None => Logged::Refused(12),
-    }
+    // an Ok: every log fits its room
+    write_from_start(kind, text, table, room).ok_or(Refusal::Room)
 }

@@ -1,36 +1,46 @@
 // The events of a schedule, performed in order; what ends and what is refused goes into the log.
 #![tactic(auto)]
 
-ghost use Rattle.answers.specs.Said.{done_says};
+ghost use Rattle.answers.specs.Said.{answer_says};
 ghost use Rattle.loglines.specs.Lines.{line_of};
 ghost use Rattle.play.specs.Play.{steps_of, event_of};
 ghost use Rattle.play.specs.Parts.{Plays, at_place};
 
-use answers::{Done, Ran};
+use answers::{Refusal, Why};
 use loglines::Pen;
 use text::Event;
 
-fn play_steps(table: &mut [u16], pen: &mut Pen, count: u16, bound_nodes: Option<u16>) -> Done
-    ensures { Plays pen.old pen.new (steps_of (line_of bound_nodes) count table.old) (done_says result, table.new) }
+fn play_steps(
+    table: &mut [u16],
+    pen: &mut Pen,
+    count: u16,
+    bound_nodes: Option<u16>,
+) -> Result<(), Refusal>
+    ensures { Plays pen.old pen.new (steps_of (line_of bound_nodes) count table.old) (answer_says result, table.new) }
 {
     let mut left = count;
     while 0 < left {
-        match steps::run(table, left) {
-            Ran::Ended(n, e) => {
+        let ran = steps::run(table, left)?;
+        match ran.why {
+            Why::Ended(e) => {
                 pen.put_end(e, bound_nodes);
-                left -= n;
+                left -= ran.steps;
             }
-            Ran::Spent(_) => return Done::Yes,
-            Ran::Idle(_) => return Done::Refused(9),
-            Ran::Damaged(_) => return Done::Refused(10),
-            Ran::Refused(r) => return Done::Refused(r),
+            Why::Spent => return Ok(()),
+            Why::Idle => return Err(Refusal::Idle),
+            Why::Damaged => return Err(Refusal::Damaged),
         }
     }
-    Done::Yes
+    Ok(())
 }
 
-fn play_event(table: &mut [u16], pen: &mut Pen, e: Event, bound_nodes: Option<u16>) -> Done
-    ensures { Plays pen.old pen.new (event_of (line_of bound_nodes) e table.old) (done_says result, table.new) }
+fn play_event(
+    table: &mut [u16],
+    pen: &mut Pen,
+    e: Event,
+    bound_nodes: Option<u16>,
+) -> Result<(), Refusal>
+    ensures { Plays pen.old pen.new (event_of (line_of bound_nodes) e table.old) (answer_says result, table.new) }
 {
     match e {
         Event::Enqueue(l, q, n) => begins::begin_enqueue(table, l, q, n),
@@ -57,8 +67,8 @@ pub fn play_events(
             return;
         };
         at = after;
-        if let Done::Refused(r) = play_event(table, pen, e, bound_nodes) {
-            pen.put_refusal(i + 1, r);
+        if let Err(r) = play_event(table, pen, e, bound_nodes) {
+            pen.put_refusal(i + 1, r.into());
             return;
         }
     }

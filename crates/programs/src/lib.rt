@@ -2,7 +2,7 @@
 // What the log programs do: a schedule on standard input, its log on standard output.
 ghost use Rattle.std.specs.Prelude.{◌<◌, ◌^◌};
 
-use logs::{Kind, Logged};
+use logs::Kind;
 
 // In lent text, table and room: 65,537 bytes of text, so that one too many is seen, and what write_log asks for.
 pub fn print_log(
@@ -16,10 +16,10 @@ pub fn print_log(
         return;
     };
     match logs::write_log(kind, &text[..n], table, room) {
-        Logged::Bytes(m) => {
+        Ok(m) => {
             streams::write_output(rt, &room[..m]);
         }
-        Logged::Refused(_) => streams::say(rt, b"bench: the table or the room is too small\n"),
+        Err(_) => streams::say(rt, b"bench: the table or the room is too small\n"),
     }
 }
 

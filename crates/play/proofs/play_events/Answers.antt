@@ -13,12 +13,12 @@ loop-i-preserved c =
       others = so_far.others ∙ event_played _ _ _ _ _ _ _ _ _ _ _ c.loop-i-test.true (sym c.in-Ok.ensures) done.played;
     }
 
-pub returns-in-Refused : goal.returns-in-Refused
+pub returns-in-Err : goal.returns-in-Err
 unfolding line_answer
-returns-in-Refused c =
+returns-in-Err c =
     let so_far = c.loop-i.invariant in
-    let done = c.in-Refused.ensures in
-    let line = c.put_refusal.ensures in
+    let done = c.in-Err.ensures in
+    let line = rw c.into.ensures at c.put_refusal.ensures in
     record {
       same_room = line.same_room ∙ done.same_room ∙ so_far.same_room;
       played = so_far.others
@@ -27,13 +27,11 @@ returns-in-Refused c =
 
 pub returns-in_default : goal.returns-in_default
 unfolding line_answer
-returns-in_default c = record {
-  same_room = c.loop-i.invariant.same_room;
-  played = c.loop-i.invariant.others ∙ place_wrong _ _ _ _ _ _ _ _ _ (sym c.in_default.ensures);
-}
+returns-in_default c =
+    let so_far = c.loop-i.invariant in
+    record { same_room = so_far.same_room; played = so_far.others ∙ place_wrong _ _ _ _ _ _ _ _ _ (sym c.in_default.ensures) }
 
 pub returns : goal.returns
-returns c = record {
-  same_room = c.loop-i.invariant.same_room;
-  played = c.loop-i.invariant.others ∙ place_none _ _ _ _ _ _ _ (omega arith);
-}
+returns c =
+    let so_far = c.loop-i.invariant in
+    record { same_room = so_far.same_room; played = so_far.others ∙ place_none _ _ _ _ _ _ _ (omega arith) }

@@ -1,20 +1,26 @@
-use Rattle.std.proofs.Common.{eq-eqb, ne_eqb}
-use Rattle.loglines.specs.Lines.{end_line, bound_line}
+use Rattle.std.proofs.Common.{◌≡◌, ◌++◌, arith}
+use Rattle.std.proofs.lemmas.Bool.Decides.{nat_tests}
+use Rattle.answers.specs.Most.{enqueue_most}
+use Rattle.decimals.specs.Decimals.{field_of}
+use Rattle.text.specs.Text.{lf, space}
+use Rattle.loglines.specs.Lines.{operation_text, end_line, bound_line, line_of}
 use Rattle.loglines.specs.Laws.{writes_then}
 use Rattle.loglines.proofs.Pen.put_end.Goals as goal
-use Rattle.loglines.proofs.Pen.put_end.Goals.{in_default-via-in-Some+else-e-eq1, in_default-via-in_default}
 
 pub returns-in-Some : goal.returns-in-Some
 unfolding bound_line
 returns-in-Some c =
-    rw (c.in-Some.is, eq-eqb _ 1 c.if-e-eq1.true)
-    (writes_then _ _ c.put_operation.ensures (writes_then _ _ (rw c.from.ensures at c.put_field.ensures) ((rw c.enqueue_most.ensures at c.put_field-in-Some.ensures))))
+    let e = c.args.e in
+    let bounded : line_of c.args.bound_nodes e
+    ≡ operation_text e ++ (field_of e.steps space ++ field_of (enqueue_most e.level.0 c.in-Some.nodes) lf)
+    = grind (arith, nat_tests) in
+    let steps = rw c.from.ensures at c.put_field.ensures in
+    let bound = rw c.enqueue_most.ensures at c.put_field-in-Some.ensures in
+    rw bounded (writes_then _ _ c.put_operation.ensures (writes_then _ _ steps bound))
 
 pub returns-in_default : goal.returns-in_default
-unfolding bound_line end_line
+unfolding bound_line
 returns-in_default c =
-    let line = writes_then _ _ c.put_operation.ensures (rw c.from-in_default.ensures at c.put_field-in_default.ensures) in
-    elim c.in_default.branch [
-      | in_default-via-in-Some+else-e-eq1 w ↦ rw (w.in-Some.is, ne_eqb _ 1 w.if-e-eq1.false) line
-      | in_default-via-in_default w ↦ rw w.in_default.is line
-    ]
+    let plain : line_of c.args.bound_nodes c.args.e ≡ end_line c.args.e = grind (arith, nat_tests) in
+    let steps = rw c.from-in_default.ensures at c.put_field-in_default.ensures in
+    rw plain (unfold end_line in writes_then _ _ c.put_operation.ensures steps)
