@@ -23,6 +23,8 @@ ghost use Rattle.search.specs.Walk.{
   Exploring,
 };
 
+use entries::Schedule;
+use outcomes::Trial;
 use text::Opening;
 use words::Sizes;
 
@@ -158,7 +160,12 @@ impl Search<'_> {
         ensures value { state_of out.new ≡ entered self.now.asked self.now.ops.now path Measure (state_of out.old) }
         ensures kept { Kept out.old out.new }
     {
-        let s = entries::events_size(self.ops, path, self.asked.operations);
+        let schedule = Schedule {
+            ops: self.ops,
+            path,
+            k: self.asked.operations,
+        };
+        let s = schedule.events_size();
         let n = lines::opening_length(self.asked.opening(s.events)) + s.bytes;
         if has_room(out.room.len(), out.listed.at, n) {
             out.listed.add(n);
@@ -173,13 +180,18 @@ impl Search<'_> {
         ensures value { state_of out.new ≡ entered self.now.asked self.now.ops.now path Write (state_of out.old) }
         ensures kept { Kept out.old out.new }
     {
-        let s = entries::events_size(self.ops, path, self.asked.operations);
+        let schedule = Schedule {
+            ops: self.ops,
+            path,
+            k: self.asked.operations,
+        };
+        let s = schedule.events_size();
         let o = self.asked.opening(s.events);
         let n = lines::opening_length(o) + s.bytes;
         let at = out.listed.at;
         if has_room(out.room.len(), at, n) {
             out.listed.add(n);
-            entries::write_text(out.room, at, o, self.ops, path, self.asked.operations);
+            schedule.write_text(out.room, at, o);
         } else {
             out.listed.close(Stop::Full);
         }
@@ -201,16 +213,15 @@ impl Search<'_> {
         match self.asked.what {
             What::Count => out.listed.add(0),
             What::Tally => {
-                outcomes::tally(
-                    out.copy,
-                    self.asked.levels,
-                    self.asked.queues,
-                    self.asked.nodes,
-                    self.ops,
-                    self.asked.operations,
+                let trial = Trial {
+                    levels: self.asked.levels,
+                    queues: self.asked.queues,
+                    nodes: self.asked.nodes,
+                    ops: self.ops,
+                    k: self.asked.operations,
                     path,
-                    out.tallies,
-                );
+                };
+                trial.tally(out.copy, out.tallies);
                 out.listed.add(0);
             }
             What::Measure => self.measure(path, out),

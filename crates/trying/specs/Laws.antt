@@ -17,8 +17,8 @@ use Rattle.tasks.specs.Tasks as task
 use Rattle.tasks.specs.Tasks.{task_reading, task_of, all_words}
 use Rattle.tasks.specs.Laws.{task_read}
 use Rattle.tries.specs.Tries.{why, sizes, operations, texts, joined, more_than, listed_in, tries_of, tally_of}
-use Rattle.trying.specs.declared.Bound.{Bound}
-use Rattle.trying.specs.declared.Bound.TheVariants.{Is, Wrong}
+use Rattle.trying.specs.declared.Asked.{Asked}
+use Rattle.trying.specs.declared.Asked.TheVariants.{Schedules, Outcomes}
 use Rattle.trying.specs.Bounds.{digit_on, go_on, number_from, bound_in}
 use Rattle.trying.specs.Trying.{
   Told,
@@ -33,12 +33,14 @@ use Rattle.trying.specs.Trying.{
   number_told,
   count_told,
   outcomes_told,
+  asked_of,
+  asked_told,
 }
 use Rattle.trying.specs.InRoom.{InRoom}
 
 -- ---- the bound
 
-pub bound_none : (bs : List ℕ) → length bs ≡ 0 → bound_in bs ≡ Wrong
+pub bound_none : (bs : List ℕ) → length bs ≡ 0 → bound_in bs ≡ None
 unfolding bound_in
 bound_none [] h = refl
 bound_none (b ∷ bs) h = absurd (omega arith)
@@ -48,12 +50,12 @@ unfolding bound_in
 bound_some [] h = absurd (h refl)
 bound_some (b ∷ bs) h = refl
 
-pub number_more : (n i : ℕ) (bs : List ℕ) (r : Bound) → i < length bs → r ≡ digit_on n (get_or bs i 0)
+pub number_more : (n i : ℕ) (bs : List ℕ) (r : Option ℕ) → i < length bs → r ≡ digit_on n (get_or bs i 0)
     → number_from n (drop i bs) ≡ go_on r (λ m. number_from m (drop (i + 1) bs))
 unfolding number_from
 number_more n i bs r h e = rw (drop-cons bs i 0 h, sym e, add-one)
 
-pub number_all : (n i : ℕ) (bs : List ℕ) → length bs ≤ i → number_from n (drop i bs) ≡ Is n
+pub number_all : (n i : ℕ) (bs : List ℕ) → length bs ≤ i → number_from n (drop i bs) ≡ Some n
 unfolding number_from
 number_all n i bs h = rw (drop_of_length-le bs {i = i} h)
 
@@ -246,3 +248,12 @@ schedules_within text bound room e =
 pub outcomes_within : {said : Said (ℕ × Bool)} {after : List ℕ} (text room : List ℕ) → outcomes_told text room ≡ (said, after)
     → InRoom said (length after)
 outcomes_within text room e = rw e at (task_in (count_told room) (count_in room) text room)
+
+asked_in : (asked : Asked) (room : List ℕ) (o : Opening) (ws : List ℕ)
+    → InRoom (asked_of asked room o ws).0 (length (asked_of asked room o ws).1)
+asked_in (Schedules bound) room o ws = tries_in o.levels o.queues o.nodes ws bound room
+asked_in Outcomes room o ws = count_in room o ws
+
+pub asked_within : {said : Said (ℕ × Bool)} {after : List ℕ} (asked : Asked) (text room : List ℕ) → asked_told asked text room ≡ (said, after)
+    → InRoom said (length after)
+asked_within asked text room e = rw e at (task_in (asked_of asked room) (asked_in asked room) text room)
