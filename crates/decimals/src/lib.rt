@@ -29,8 +29,8 @@ fn goes_on(v: usize, b: u8) -> bool
 }
 
 // The field whose digits before place make v.
-// kept: tests and adds in usize. `checked_mul` and `checked_add` of a u16 were tried: the log of a 64 KiB schedule takes 8 to 10 in 100 more
-// instructions (docs/SPEED.md, "The program").
+// kept: tests and adds in usize. `checked_mul` and `checked_add` of a u16 were tried: the log of a 64 KiB schedule takes 8 to 10 in 100
+// more instructions (docs/SPEED.md, "The program").
 #[tactic(auto, using(crate::proofs::ReadBack::reads))]
 fn read_rest(text: &[u8], place: usize, end: u8, v: usize) -> Option<(u16, usize)>
     requires { (place ≤ length text.now) × (v ≤ 65535) }
