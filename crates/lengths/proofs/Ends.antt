@@ -20,8 +20,6 @@ use Rattle.table.specs.Frames.{counted}
 use Rattle.table.specs.Table.{Row, loads, stores, frees, nothing, row}
 use Rattle.table.specs.declared.After.{After}
 use Rattle.table.specs.declared.After.TheVariants.{Go, Done}
-use Rattle.steps.specs.declared.Served.{Served}
-use Rattle.steps.specs.declared.Served.TheVariants.{At, Nobody}
 use Rattle.steps.specs.Step.{Out, serving, sound, settled, performed, step_frame, step_served, step_sized, step_measured, step_of}
 use Rattle.steps.proofs.Laws.{serving_below, serving_runs}
 use Rattle.steps.specs.Keeping.{kind, kind_after, kind_of, kind_kept}
@@ -167,9 +165,9 @@ step_balanced : (s : Sizes) (t : List ℕ) → measured t ≡ Some s → Balance
 unfolding step_sized step_served step_frame counted
 step_balanced s t m = by (serving s t s.levels) refl
   where
-    by : (v : Served) → serving s t s.levels ≡ v → Balanced s t (step_served s t v)
-    by Nobody e = refused_balanced s t 9
-    by (At l) e = on (sound s (counted (frame_of s t l)))
+    by : (v : Option Level) → serving s t s.levels ≡ v → Balanced s t (step_served s t v)
+    by None e = refused_balanced s t 9
+    by (Some l) e = on (sound s (counted (frame_of s t l)))
       where
         f : Frame
         f = counted (frame_of s t l)

@@ -1,13 +1,11 @@
 -- How long a line of the log can be, and how short a line of a schedule.
-use Rattle.std.specs.Prelude.{ℕ, ◌+◌, ◌*◌, ◌≤◌, ◌≡◌, refl, List, [], ◌∷◌, ◌++◌, Bool, true, false, cond, length, ltb, eqb}
+use Rattle.std.specs.Prelude.{ℕ, ◌+◌, ◌*◌, ◌≤◌, ◌≡◌, refl, List, [], ◌∷◌, ◌++◌, Bool, true, false, Option, Some, None, cond, length, ltb, eqb}
 use Rattle.std.proofs.Common.{arith, length-append}
 use Rattle.answers.specs.declared.End.{End}
 use Rattle.answers.specs.Most.{enqueue_most}
 use Rattle.decimals.specs.Decimals.{width_of, digits_of, field_of}
 use Rattle.decimals.specs.Laws.{length_digits, length_field}
 use Rattle.text.specs.Text.{lf, space, head_e, head_d}
-use Rattle.loglines.specs.declared.Beside.{Beside}
-use Rattle.loglines.specs.declared.Beside.TheVariants.{Nothing, Bound}
 use Rattle.loglines.specs.Lines.{
   text_line,
   refusal_line,
@@ -62,19 +60,19 @@ operation_most e =
     simp length-append (omega arith)
 
 -- the most bytes of an ended operation's line, of either log
-abbrev pub line_most : Beside → ℕ
-line_most Nothing = 26
-line_most (Bound nodes) = 32
+abbrev pub line_most : Option ℕ → ℕ
+line_most None = 26
+line_most (Some nodes) = 32
 
 end_most : (e : End) → length (end_line e) ≤ 26
 unfolding end_line
 end_most e =
     let operation = operation_most e in let steps = field_most e.steps lf in simp length-append (omega arith)
 
-pub line_most_holds : (beside : Beside) (e : End) → length (line_of beside e) ≤ line_most beside
+pub line_most_holds : (beside : Option ℕ) (e : End) → length (line_of beside e) ≤ line_most beside
 unfolding bound_line
-line_most_holds Nothing e = end_most e
-line_most_holds (Bound nodes) e = by (eqb e.op 1)
+line_most_holds None e = end_most e
+line_most_holds (Some nodes) e = by (eqb e.op 1)
   where
     bounded : List ℕ
     bounded = operation_text e ++ (field_of e.steps space ++ field_of (enqueue_most e.level.0 nodes) lf)

@@ -1,12 +1,24 @@
 -- Bytes written one after another into lent room: so many are written, or the room is full and takes no more.
-use Rattle.std.specs.Prelude.{ℕ, ◌+◌, List, [], ◌∷◌, cond, length, set, ltb}
+use Rattle.std.specs.Prelude.{ℕ, ◌+◌, ◌≡◌, List, [], ◌∷◌, Option, Some, None, cond, length, set, ltb}
 use Rattle.loglines.specs.declared.Pen.{Pen}
-use Rattle.loglines.specs.declared.Pen.TheVariants.{At, Full}
 
-unfoldable pub ink_one : Pen × List ℕ → ℕ → Pen × List ℕ
-ink_one (At at, room) b = cond (ltb at (length room)) (At (at + 1), set room at b) (Full, room)
-ink_one (Full, room) b = (Full, room)
+-- how many bytes are written, none if the room is full; and the room
+abbrev pub Page : Type 0
+Page = Option ℕ × List ℕ
 
-unfoldable pub ink : Pen × List ℕ → List ℕ → Pen × List ℕ
+unfoldable pub ink_one : Page → ℕ → Page
+ink_one (Some at, room) b = cond (ltb at (length room)) (Some (at + 1), set room at b) (None, room)
+ink_one (None, room) b = (None, room)
+
+unfoldable pub ink : Page → List ℕ → Page
 ink x [] = x
 ink x (b ∷ bs) = ink (ink_one x b) bs
+
+-- how far the pen's room is written
+abbrev pub page : Pen → Page
+page p = (p.at, p.room.now)
+
+-- the pen q is p after these bytes, in the same room
+pub record Writes (p q : Pen) (bytes : List ℕ) : Type 0 where
+  pub same_room : q.room.ghost_name ≡ p.room.ghost_name
+  pub inked : ink (page p) bytes ≡ page q

@@ -1,6 +1,7 @@
 -- Writing piece after piece writes the log.
-use Rattle.std.specs.Prelude.{ℕ, suc, ◌+◌, ◌≤◌, ◌<◌, ◌≡◌, refl, List, [], ◌∷◌, ◌++◌, length, take, drop, get_or}
-use Rattle.std.proofs.Common.{sym, ap, ◌∙◌, append_assoc, arith, zero-add, add-zero, add-one, length-append, drop_of_length-le, drop-cons, length-take-le, get_or-take, lt-ltb}
+use Rattle.std.specs.Prelude.{ℕ, suc, ◌+◌, ◌≤◌, ◌<◌, ◌≡◌, refl, List, [], ◌∷◌, ◌++◌, length, take, drop, get_or, Some}
+use Rattle.std.proofs.Common.{ap, ◌∙◌, append_assoc, append-nil, arith, zero-add, add-zero, length-append, lt-ltb}
+use Rattle.std.proofs.lemmas.List.{take_more}
 use Rattle.std.proofs.lemmas.List.Edits.{sets-eq}
 use Rattle.std.proofs.Math.Seq.{set-append_seam, take-append_seam}
 use Rattle.heads.specs.Put.{Put}
@@ -8,51 +9,43 @@ use Rattle.decimals.specs.Decimals.{digits_of}
 use Rattle.text.specs.Text.{space}
 use Rattle.loglines.specs.Lines.{nodes_text}
 use Rattle.loglines.specs.declared.Pen.{Pen}
-use Rattle.loglines.specs.declared.Pen.TheVariants.{At}
-use Rattle.loglines.specs.Ink.{ink_one, ink}
+use Rattle.loglines.specs.Ink.{Page, ink_one, ink, Writes}
 
-pub ink_append : (x : Pen × List ℕ) (bs cs : List ℕ) → ink x (bs ++ cs) ≡ ink (ink x bs) cs
+pub ink_append : (x : Page) (bs cs : List ℕ) → ink x (bs ++ cs) ≡ ink (ink x bs) cs
 unfolding ink
 ink_append x [] cs = refl
 ink_append x (b ∷ bs) cs = ink_append (ink_one x b) bs cs
 
-pub ink_then : {y z : Pen × List ℕ} (x : Pen × List ℕ) (bs cs : List ℕ) → ink x bs ≡ y → ink y cs ≡ z → ink x (bs ++ cs) ≡ z
+pub ink_then : {y z : Page} (x : Page) (bs cs : List ℕ) → ink x bs ≡ y → ink y cs ≡ z → ink x (bs ++ cs) ≡ z
 ink_then x bs cs e f = ink_append x bs cs ∙ rw e f
 
-pub ink_last : {y z : Pen × List ℕ} (x : Pen × List ℕ) (bs : List ℕ) (b : ℕ) → ink x bs ≡ y → ink_one y b ≡ z → ink x (bs ++ (b ∷ [])) ≡ z
+-- ---- a pen that writes
+
+pub writes_none : (p : Pen) → Writes p p []
 unfolding ink
-ink_last x bs b e f = ink_then x bs (b ∷ []) e f
+writes_none p = record { same_room = refl; inked = refl }
 
--- a loop over the bytes of a piece, or over nodes: one more, or none
-pub ink_more : {y : Pen × List ℕ} (x : Pen × List ℕ) (bs : List ℕ) (i : ℕ) → i < length bs → ink_one x (get_or bs i 0) ≡ y
-    → ink x (drop i bs) ≡ ink y (drop (i + 1) bs)
-unfolding ink
-ink_more x bs i h e = ap (ink x) (drop-cons bs i 0 h) ∙ ap (λ (w : Pen × List ℕ). ink w (drop (suc i) bs)) e ∙ rw add-one
+-- one piece, and then another
+pub writes_then : {p q r : Pen} (bs cs : List ℕ) → Writes p q bs → Writes q r cs → Writes p r (bs ++ cs)
+writes_then bs cs x y = record { same_room = y.same_room ∙ x.same_room; inked = ink_then _ bs cs x.inked y.inked }
 
-nodes_first : {y z : Pen × List ℕ} (x : Pen × List ℕ) (v : ℕ) (ns : List ℕ) → ink_one x space ≡ y → ink y (digits_of v) ≡ z
-    → ink x (nodes_text (v ∷ ns)) ≡ ink z (nodes_text ns)
-unfolding ink nodes_text
-nodes_first x v ns e f =
-    ap (λ (w : Pen × List ℕ). ink w (digits_of v ++ nodes_text ns)) e
-    ∙ ink_append _ (digits_of v) (nodes_text ns)
-    ∙ ap (λ (w : Pen × List ℕ). ink w (nodes_text ns)) f
+-- one byte more of those that a loop writes
+pub writes_more : {p q r : Pen} (bs : List ℕ) (i : ℕ) → i < length bs → Writes p q (take i bs) → Writes q r (get_or bs i 0 ∷ [])
+    → Writes p r (take (i + 1) bs)
+writes_more bs i h x y = rw (take_more bs i 0 h) (writes_then _ _ x y)
 
-pub nodes_more : {y z : Pen × List ℕ} (x : Pen × List ℕ) (ns : List ℕ) (n i : ℕ) → i < n → n ≤ length ns
-    → ink_one x space ≡ y → ink y (digits_of (get_or ns i 0)) ≡ z
-    → ink x (nodes_text (drop i (take n ns))) ≡ ink z (nodes_text (drop (i + 1) (take n ns)))
-nodes_more x ns n i h l e f =
-    let in_part : i < length (take n ns) = rw length-take-le h in
-    let same : get_or ns i 0 ≡ get_or (take n ns) i 0 = sym (get_or-take n ns i 0 h) in
-    ap (λ (ms : List ℕ). ink x (nodes_text ms)) (drop-cons (take n ns) i 0 in_part)
-    ∙ nodes_first x _ _ e (rw same at f) ∙ rw add-one
+nodes_append : (ns : List ℕ) (n : ℕ) → nodes_text (ns ++ (n ∷ [])) ≡ nodes_text ns ++ ((space ∷ []) ++ digits_of n)
+unfolding nodes_text
+nodes_append [] n = ap (λ (w : List ℕ). space ∷ w) (append-nil (digits_of n))
+nodes_append (m ∷ ns) n = simp (nodes_append ns n, append_assoc)
 
-pub ink_none : (x : Pen × List ℕ) (bs : List ℕ) (i : ℕ) → length bs ≤ i → ink x (drop i bs) ≡ x
-unfolding ink
-ink_none x bs i h = rw (drop_of_length-le bs {i = i} h)
+-- one node more
+pub nodes_more : {p q r s : Pen} (ns : List ℕ) (i : ℕ) → i < length ns → Writes p q (nodes_text (take i ns)) → Writes q r (space ∷ [])
+    → Writes r s (digits_of (get_or ns i 0)) → Writes p s (nodes_text (take (i + 1) ns))
+nodes_more ns i h x y z =
+    rw (take_more ns i 0 h, nodes_append (take i ns) (get_or ns i 0)) (writes_then _ _ x (writes_then _ _ y z))
 
-pub nodes_none : (x : Pen × List ℕ) (ns : List ℕ) (n i : ℕ) → n ≤ i → n ≤ length ns → ink x (nodes_text (drop i (take n ns))) ≡ x
-unfolding ink nodes_text
-nodes_none x ns n i h l = let past : length (take n ns) ≤ i = rw length-take-le h in rw (drop_of_length-le (take n ns) {i = i} past)
+-- ---- into room
 
 -- the digits that were written at the start of a room
 pub digits_put : (w n : ℕ) (room after : List ℕ) → Put w after room 0 (digits_of n) → length (digits_of n) ≤ length room
@@ -63,7 +56,7 @@ digits_put w n room after p h =
 
 -- bytes behind those that are written, where the room has place for them
 ink_behind : (done room bs : List ℕ) → length bs ≤ length room
-    → ink (At (length done), done ++ room) bs ≡ (At (length done + length bs), done ++ (bs ++ drop (length bs) room))
+    → ink (Some (length done), done ++ room) bs ≡ (Some (length done + length bs), done ++ (bs ++ drop (length bs) room))
 unfolding ink ink_one
 ink_behind done room [] h = rw add-zero
 ink_behind done [] (b ∷ bs) h = absurd (omega arith)
@@ -76,5 +69,5 @@ ink_behind done (x ∷ room) (b ∷ bs) h =
 
 -- a room that is not below the bytes' number has them at its start, and what it had past them
 pub ink_all : (room bs : List ℕ) → length bs ≤ length room
-    → ink (At 0, room) bs ≡ (At (length bs), bs ++ drop (length bs) room)
+    → ink (Some 0, room) bs ≡ (Some (length bs), bs ++ drop (length bs) room)
 ink_all room bs h = ink_behind [] room bs h ∙ rw zero-add

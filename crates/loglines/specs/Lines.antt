@@ -1,11 +1,9 @@
 -- The lines of the log, as bytes. Its fixed words are the letters T, R, E, D, Q, U, and `R 0 2` whole.
-use Rattle.std.specs.Prelude.{ℕ, List, [], ◌∷◌, ◌++◌, cond, eqb}
+use Rattle.std.specs.Prelude.{ℕ, Option, Some, None, List, [], ◌∷◌, ◌++◌, cond, eqb}
 use Rattle.decimals.specs.Decimals.{digits_of, field_of}
 use Rattle.text.specs.Text.{lf, space, head_e, head_d}
 use Rattle.answers.specs.declared.End.{End}
 use Rattle.answers.specs.Most.{enqueue_most}
-use Rattle.loglines.specs.declared.Beside.{Beside}
-use Rattle.loglines.specs.declared.Beside.TheVariants.{Nothing, Bound}
 
 abbrev pub head_t : List ℕ
 head_t = 84 ∷ space ∷ []
@@ -49,9 +47,9 @@ bound_line nodes e =
     cond (eqb e.op 1) (operation_text e ++ (field_of e.steps space ++ field_of (enqueue_most e.level.0 nodes) lf)) (end_line e)
 
 -- the line by what stands beside an enqueue's steps
-abbrev pub line_of : Beside → End → List ℕ
-line_of Nothing e = end_line e
-line_of (Bound nodes) e = bound_line nodes e
+abbrev pub line_of : Option ℕ → End → List ℕ
+line_of None e = end_line e
+line_of (Some nodes) e = bound_line nodes e
 
 unfoldable pub nodes_text : List ℕ → List ℕ
 nodes_text [] = []

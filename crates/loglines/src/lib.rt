@@ -1,179 +1,148 @@
 // The lines of the log, written one after another into lent room as far as it reaches.
 #![tactic(auto)]
 
-ghost use Rattle.std.specs.Prelude.{◌≡◌, ◌≤◌, length, take};
+ghost use Rattle.std.specs.Prelude.{◌≡◌, ◌∷◌, []};
 ghost use Rattle.answers.specs.Most.{enqueue_most};
 ghost use Rattle.decimals.specs.Decimals.{digits_of, field_of};
 ghost use Rattle.loglines.specs.Lines.{
   text_line,
   refusal_line,
-  head_of,
   operation_text,
   line_of,
   nodes_text,
   queue_line,
   unquiet_line,
 };
-ghost use Rattle.loglines.specs.Ink.{ink_one, ink};
 
 use answers::End;
 use words::{Level, Queue};
 
-// How many bytes are written; or that the room was too small for the next one, after which nothing is written.
-#[derive(Clone, Copy)]
-pub enum Pen {
-    At(usize),
-    Full,
-}
-
-// What stands beside an enqueue's steps in its line: nothing, or the bound on them in a table of so many nodes.
-#[derive(Clone, Copy)]
-pub enum Beside {
-    Nothing,
-    Bound(u16),
+// Lent room, and how many of its bytes are written; none, where the room was too small for the next one: then no more is written.
+#[derive(Drop)]
+pub struct Pen<'a> {
+    pub room: &'a mut [u8],
+    pub at: Option<usize>,
 }
 
 const SPACE: u8 = 32;
 
 const LF: u8 = 10;
 
-fn put_byte(room: &mut [u8], pen: Pen, b: u8) -> Pen
-    ensures { ink_one (pen, room.old) b ≡ (result, room.new) }
-{
-    match pen {
-        Pen::At(at) => {
-            if at < room.len() {
-                room[at] = b;
-                Pen::At(at + 1)
-            } else {
-                Pen::Full
-            }
-        }
-        Pen::Full => Pen::Full,
-    }
-}
-
-pub fn put(room: &mut [u8], pen: Pen, bytes: &[u8]) -> Pen
-    ensures { ink (pen, room.old) bytes.now ≡ (result, room.new) }
-{
-    let mut next = pen;
-    let mut i = 0;
-    while i < bytes.len() {
-        next = put_byte(room, next, bytes[i]);
-        i += 1;
-    }
-    next
-}
-
-fn put_number(room: &mut [u8], pen: Pen, n: usize) -> Pen
-    ensures { ink (pen, room.old) (digits_of n) ≡ (result, room.new) }
-{
-    let mut digits = [0u8; 5];
-    let w = decimals::write_digits(&mut digits, 0, n);
-    put(room, pen, &digits[..w])
-}
-
-fn put_field(room: &mut [u8], pen: Pen, n: usize, end: u8) -> Pen
-    ensures { ink (pen, room.old) (field_of n end) ≡ (result, room.new) }
-{
-    let next = put_number(room, pen, n);
-    put_byte(room, next, end)
-}
-
-// `T line`
-pub fn put_text_refusal(room: &mut [u8], pen: Pen, line: usize) -> Pen
-    ensures { ink (pen, room.old) (text_line line) ≡ (result, room.new) }
-{
-    let head = put(room, pen, b"T ");
-    put_field(room, head, line, LF)
-}
-
-// `R event number`
-pub fn put_refusal(room: &mut [u8], pen: Pen, event: u16, number: u16) -> Pen
-    ensures { ink (pen, room.old) (refusal_line event number) ≡ (result, room.new) }
-{
-    let head = put(room, pen, b"R ");
-    let next = put_field(room, head, event as usize, SPACE);
-    put_field(room, next, number as usize, LF)
-}
-
-// The letter of an operation that ended.
-fn put_letter(room: &mut [u8], pen: Pen, op: u16) -> Pen
-    ensures { ink (pen, room.old) (head_of op) ≡ (result, room.new) }
-{
-    if op == 1 {
-        put(room, pen, b"E ")
-    } else {
-        put(room, pen, b"D ")
-    }
-}
-
-// `E level queue node ` or `D level queue node `
-fn put_operation(room: &mut [u8], pen: Pen, e: End) -> Pen
-    ensures { ink (pen, room.old) (operation_text e) ≡ (result, room.new) }
-{
-    let head = put_letter(room, pen, e.op);
-    let level = put_field(room, head, e.level.0 as usize, SPACE);
-    let queue = put_field(room, level, e.queue.0 as usize, SPACE);
-    put_field(room, queue, e.node.0 as usize, SPACE)
-}
-
 // The most steps that an enqueue takes at a level of a table of so many nodes.
 fn enqueue_most(l: Level, nodes: u16) -> usize
     ensures { result ≡ enqueue_most l.0 nodes }
 {
-    (l.0 as usize + 2) * (nodes as usize + 6)
+    (usize::from(l.0) + 2) * (usize::from(nodes) + 6)
 }
 
-// `E level queue node steps` or `D level queue node steps`; beside an enqueue's steps their bound, if it is asked for
-#[tactic(auto, using(crate::specs::Laws::ink_then), unfolding(crate::specs::Lines::bound_line, crate::specs::Lines::end_line))]
-pub fn put_end(room: &mut [u8], pen: Pen, e: End, beside: Beside) -> Pen
-    ensures { ink (pen, room.old) (line_of beside e) ≡ (result, room.new) }
-{
-    let next = put_operation(room, pen, e);
-    match beside {
-        Beside::Nothing => put_field(room, next, e.steps as usize, LF),
-        Beside::Bound(nodes) => {
-            if e.op == 1 {
-                let steps = put_field(room, next, e.steps as usize, SPACE);
-                put_field(room, steps, enqueue_most(e.level, nodes), LF)
+// kept: no `Display` and `write!` for the lines. What these promise they promise of an `Ok` alone (`WritesOnOk`), and a pen's bytes are said
+// also where its room ends within a line; and their numbers have all their digits, where `digits_of` has five at most.
+impl Pen<'_> {
+    ghost use Rattle.loglines.specs.Ink.{Writes};
+
+    fn put_byte(&mut self, b: u8)
+        ensures { Writes self.old self.new (b ∷ []) }
+    {
+        if let Some(at) = self.at {
+            if at < self.room.len() {
+                self.room[at] = b;
+                self.at = Some(at + 1);
             } else {
-                put_field(room, next, e.steps as usize, LF)
+                self.at = None;
             }
         }
     }
-}
 
-// The first n nodes, each after a space.
-fn put_nodes(room: &mut [u8], pen: Pen, nodes: &[u16], n: usize) -> Pen
-    requires { n ≤ length nodes.now }
-    ensures { ink (pen, room.old) (nodes_text (take n nodes.now)) ≡ (result, room.new) }
-{
-    let mut next = pen;
-    let mut i = 0;
-    while i < n {
-        next = put_byte(room, next, SPACE);
-        next = put_number(room, next, words::wide(nodes[i]));
-        i += 1;
+    pub fn put(&mut self, bytes: &[u8])
+        ensures { Writes self.old self.new bytes.now }
+    {
+        for b in bytes {
+            self.put_byte(*b);
+        }
     }
-    next
-}
 
-// `Q queue` and its nodes
-pub fn put_queue(room: &mut [u8], pen: Pen, q: Queue, nodes: &[u16], n: usize) -> Pen
-    requires { n ≤ length nodes.now }
-    ensures { ink (pen, room.old) (queue_line q.0 (take n nodes.now)) ≡ (result, room.new) }
-{
-    let head = put(room, pen, b"Q ");
-    let queue = put_number(room, head, q.0 as usize);
-    let last = put_nodes(room, queue, nodes, n);
-    put_byte(room, last, LF)
-}
+    fn put_number(&mut self, n: usize)
+        ensures { Writes self.old self.new (digits_of n) }
+    {
+        let mut digits = [0u8; 5];
+        let w = decimals::write_digits(&mut digits, 0, n);
+        self.put(&digits[..w]);
+    }
 
-// `U queue`
-pub fn put_unquiet(room: &mut [u8], pen: Pen, q: Queue) -> Pen
-    ensures { ink (pen, room.old) (unquiet_line q.0) ≡ (result, room.new) }
-{
-    let head = put(room, pen, b"U ");
-    put_field(room, head, q.0 as usize, LF)
+    fn put_field(&mut self, n: usize, end: u8)
+        ensures { Writes self.old self.new (field_of n end) }
+    {
+        self.put_number(n);
+        self.put_byte(end);
+    }
+
+    // `T line`
+    pub fn put_text_refusal(&mut self, line: usize)
+        ensures { Writes self.old self.new (text_line line) }
+    {
+        self.put(b"T ");
+        self.put_field(line, LF);
+    }
+
+    // `R event number`
+    pub fn put_refusal(&mut self, event: u16, number: u16)
+        ensures { Writes self.old self.new (refusal_line event number) }
+    {
+        self.put(b"R ");
+        self.put_field(usize::from(event), SPACE);
+        self.put_field(usize::from(number), LF);
+    }
+
+    // `E level queue node ` or `D level queue node `
+    fn put_operation(&mut self, e: End)
+        ensures { Writes self.old self.new (operation_text e) }
+    {
+        self.put(if e.op == 1 { b"E " } else { b"D " });
+        self.put_field(usize::from(e.level.0), SPACE);
+        self.put_field(usize::from(e.queue.0), SPACE);
+        self.put_field(usize::from(e.node.0), SPACE);
+    }
+
+    // `E level queue node steps` or `D level queue node steps`; beside an enqueue's steps, if a number of nodes is given, the bound on them
+    // in a table of so many
+    pub fn put_end(&mut self, e: End, bound_nodes: Option<u16>)
+        ensures { Writes self.old self.new (line_of bound_nodes e) }
+    {
+        self.put_operation(e);
+        match bound_nodes {
+            Some(nodes) if e.op == 1 => {
+                self.put_field(usize::from(e.steps), SPACE);
+                self.put_field(enqueue_most(e.level, nodes), LF);
+            }
+            _ => self.put_field(usize::from(e.steps), LF),
+        }
+    }
+
+    // The nodes, each after a space.
+    fn put_nodes(&mut self, nodes: &[u16])
+        ensures { Writes self.old self.new (nodes_text nodes.now) }
+    {
+        for n in nodes {
+            self.put_byte(SPACE);
+            self.put_number(usize::from(*n));
+        }
+    }
+
+    // `Q queue` and its nodes
+    pub fn put_queue(&mut self, q: Queue, nodes: &[u16])
+        ensures { Writes self.old self.new (queue_line q.0 nodes.now) }
+    {
+        self.put(b"Q ");
+        self.put_number(usize::from(q.0));
+        self.put_nodes(nodes);
+        self.put_byte(LF);
+    }
+
+    // `U queue`
+    pub fn put_unquiet(&mut self, q: Queue)
+        ensures { Writes self.old self.new (unquiet_line q.0) }
+    {
+        self.put(b"U ");
+        self.put_field(usize::from(q.0), LF);
+    }
 }

@@ -1,12 +1,14 @@
 -- What the proofs of the log cite.
-use Rattle.std.specs.Prelude.{ℕ, suc, ◌+◌, ◌-◌, ◌≤◌, ◌<◌, Bool, true, false, cond, take, drop, replicate, ltb}
+use Rattle.std.specs.Prelude.{ℕ, zero, suc, ◌+◌, ◌≤◌, ◌<◌, Bool, true, false, Option, Some, None, cond, take, drop, replicate, ltb}
 use Rattle.std.proofs.Math.Path.{◌≡◌, refl, sym, ap}
-use Rattle.std.proofs.Common.{◌∙◌, arith, add-one, length-append}
+use Rattle.std.proofs.Common.{◌∙◌, arith, add-one, add-zero, append-nil, append_assoc, length-append}
 use mathlib.Core.List.{List, [], ◌∷◌, ◌++◌}
 use Rattle.std.proofs.Math.ListN.{length}
+use Rattle.std.specs.Option.{ok_or}
 use borrow.Author.Tests.{lt-ltb, le-ltb}
 use Rattle.words.specs.declared.Queue.{Queue}
-use Rattle.answers.specs.Said.{Said, refused, says}
+use Rattle.answers.specs.declared.Refusal.TheVariants.{Room}
+use Rattle.answers.specs.Said.{Said, refused, says, answer_says}
 use Rattle.text.specs.declared.Opening.{Opening}
 use Rattle.text.specs.declared.Event.{Event}
 use Rattle.text.specs.Answer.{Answer, gives, refuses, onto}
@@ -16,9 +18,8 @@ use Rattle.schedule.specs.Whole.{rest_by, check_by, events_reading, schedule_rea
 use Rattle.asks.specs.Listing.{listing_of}
 use Rattle.loglines.specs.Lines.{text_line, sizes_line, queue_line, unquiet_line}
 use Rattle.loglines.specs.declared.Pen.{Pen}
-use Rattle.loglines.specs.declared.Pen.TheVariants.{At, Full}
-use Rattle.loglines.specs.Ink.{ink}
-use Rattle.loglines.specs.Laws.{ink_then, ink_all}
+use Rattle.loglines.specs.Ink.{Page, ink, Writes}
+use Rattle.loglines.specs.Laws.{ink_then, ink_all, writes_none, writes_then}
 use Rattle.fresh.specs.Fresh.{fresh_of}
 use Rattle.play.specs.Parts.{into, at_place}
 use Rattle.play.specs.Laws.{place_events}
@@ -55,45 +56,43 @@ queue_unlisted t q r nodes h = rw h
 
 -- ---- one queue more
 
-pub queues_more : {y : Pen × List ℕ} (x : Pen × List ℕ) (t : List ℕ) (i queues : ℕ) → i < queues → ink x (queue_of t (i + 1)) ≡ y
-    → ink x (queues_of t (i + 1) (queues - i)) ≡ ink y (queues_of t (i + 1 + 1) (queues - (i + 1)))
+queues_last : (t : List ℕ) (q n : ℕ) → queues_of t q (n + 1) ≡ queues_of t q n ++ queue_of t (q + n)
 unfolding queues_of
-queues_more {y} x t i queues h e = by (queues - i) (omega arith)
-  where
-    by : (k : ℕ) → k ≡ suc (queues - (i + 1)) → ink x (queues_of t (i + 1) k) ≡ ink y (queues_of t (i + 1 + 1) (queues - (i + 1)))
-    by k f =
-        ap (λ (j : ℕ). ink x (queues_of t (i + 1) j)) f
-        ∙ ink_then x (queue_of t (i + 1)) (queues_of t (suc (i + 1)) (queues - (i + 1))) e refl
-        ∙ rw (add-one (i + 1))
+queues_last t q zero = simp (append-nil, add-zero)
+queues_last t q (suc n) =
+    let next : suc q + n ≡ q + suc n = omega arith in
+    let rest = queues_last t (suc q) n in
+    rw add-one (simp (append_assoc, ← next) (ap (λ (w : List ℕ). queue_of t q ++ w) (rw add-one at rest)))
 
-pub queues_none : (x : Pen × List ℕ) (t : List ℕ) (i queues : ℕ) → queues ≤ i → ink x (queues_of t (i + 1) (queues - i)) ≡ x
-unfolding queues_of ink
-queues_none x t i queues h = let e : queues - i ≡ 0 = omega arith in rw e
+pub queues_none : (p : Pen) (t : List ℕ) → Writes p p (queues_of t 1 0)
+unfolding queues_of
+queues_none p t = writes_none p
 
-pub queues_start : (x : Pen × List ℕ) (t : List ℕ) (queues : ℕ) → ink x (queues_of t 1 queues) ≡ ink x (queues_of t (0 + 1) (queues - 0))
-queues_start x t queues = let e : queues ≡ queues - 0 = omega arith in ap (λ (k : ℕ). ink x (queues_of t 1 k)) e
+pub queues_more : {p q r : Pen} (t : List ℕ) (i : ℕ) → Writes p q (queues_of t 1 i) → Writes q r (queue_of t (i + 1))
+    → Writes p r (queues_of t 1 (i + 1))
+queues_more t i x y = let e : 1 + i ≡ i + 1 = omega arith in rw (queues_last t 1 i, e) (writes_then _ _ x y)
 
 -- ---- the events, and then the queues
 
-pub with_queues_holds : {y z : Pen × List ℕ} {u : List ℕ} (x : Pen × List ℕ) (o : Opening) (p : List ℕ × List ℕ) → into x p ≡ (y, u)
+pub with_queues_holds : {y z : Page} {u : List ℕ} (x : Page) (o : Opening) (p : List ℕ × List ℕ) → into x p ≡ (y, u)
     → ink y (queues_of u 1 o.queues) ≡ z → into x (with_queues o p) ≡ (z, u)
 with_queues_holds {y} {z} {u} x o p e f =
     let a : ink x p.0 ≡ y = ap (λ q. q.0) e in
     let b : p.1 ≡ u = ap (λ q. q.1) e in
-    rw b (ap (λ (w : Pen × List ℕ). (w, u)) (ink_then x p.0 (queues_of u 1 o.queues) a f))
+    rw b (ap (λ (w : Page). (w, u)) (ink_then x p.0 (queues_of u 1 o.queues) a f))
 
 -- the log from the fresh table on, by what making it said
-module _ (kind : Kind) (x : Pen × List ℕ) (o : Opening) (text : List ℕ) (place : ℕ) (f : Said Unit × List ℕ) where
-  pub placed_made : {y z : Pen × List ℕ} {u : List ℕ} (t : List ℕ) → f ≡ (says tt, t)
+module _ (kind : Kind) (x : Page) (o : Opening) (text : List ℕ) (place : ℕ) (f : Said Unit × List ℕ) where
+  pub placed_made : {y z : Page} {u : List ℕ} (t : List ℕ) → f ≡ (says tt, t)
       → into x (at_place (line_in kind o) o.events 1 text place t) ≡ (y, u) → ink y (queues_of u 1 o.queues) ≡ z
       → into x (placed_log kind o text place f) ≡ (z, u)
   unfolding placed_log
   placed_made t e p q = rw e (with_queues_holds x o (at_place (line_in kind o) o.events 1 text place t) p q)
 
-  pub placed_refused : {y : Pen × List ℕ} (r : ℕ) (t : List ℕ) → f ≡ (refused r, t) → ink x sizes_line ≡ y
+  pub placed_refused : {y : Page} (r : ℕ) (t : List ℕ) → f ≡ (refused r, t) → ink x sizes_line ≡ y
       → into x (placed_log kind o text place f) ≡ (y, t)
   unfolding placed_log
-  placed_refused r t e p = rw e (ap (λ (w : Pen × List ℕ). (w, t)) p)
+  placed_refused r t e p = rw e (ap (λ (w : Page). (w, t)) p)
 
 -- ---- a text that was checked
 
@@ -141,7 +140,7 @@ check_wrong text n vs h = by (sizes_reading text) h
 
 -- ---- the whole log
 
-module _ (kind : Kind) (text t room : List ℕ) where
+module _ (kind : Kind) (text t : List ℕ) where
   placed_is : (o : Opening) (place : ℕ) (r : Right text o place) (f : Said Unit × List ℕ)
       → placed_log kind o text place f ≡ sized_log kind o r.events f
   unfolding placed_log sized_log
@@ -149,22 +148,22 @@ module _ (kind : Kind) (text t room : List ℕ) where
   placed_is o place r (says _, t) =
       ap (with_queues o) (place_events (line_in kind o) o.events 1 text place r.next r.events t r.read)
 
-  pub log_right : {y : Pen × List ℕ} {u : List ℕ} (o : Opening) (place : ℕ) → check_reading text ≡ gives (o, place)
-      → into (At 0, room) (placed_log kind o text place (fresh_of (opening_sizes o) t)) ≡ (y, u)
-      → into (At 0, room) (log_text kind text t) ≡ (y, u)
+  pub log_right : {y : Page} {u : List ℕ} (x : Page) (o : Opening) (place : ℕ) → check_reading text ≡ gives (o, place)
+      → into x (placed_log kind o text place (fresh_of (opening_sizes o) t)) ≡ (y, u) → into x (log_text kind text t) ≡ (y, u)
   unfolding log_text read_log
-  log_right o place h e =
+  log_right x o place h e =
       let r = check_right text o place h in
       let is = ap (read_log kind t) r.whole ∙ sym (placed_is o place r (fresh_of (opening_sizes o) t)) in
       rw is e
 
-  pub log_wrong : {y : Pen × List ℕ} (line : ℕ) → check_reading text ≡ refuses 13 (line ∷ []) → ink (At 0, room) (text_line line) ≡ y
-      → into (At 0, room) (log_text kind text t) ≡ (y, t)
+  pub log_wrong : {y : Page} (x : Page) (line : ℕ) → check_reading text ≡ refuses 13 (line ∷ []) → ink x (text_line line) ≡ y
+      → into x (log_text kind text t) ≡ (y, t)
   unfolding log_text read_log
-  log_wrong line h e = rw (check_wrong text 13 (line ∷ []) h, e)
+  log_wrong x line h e = rw (check_wrong text 13 (line ∷ []) h, e)
 
-  -- ---- what is answered
+-- ---- what is answered
 
+module _ (kind : Kind) (text t room : List ℕ) where
   pub log_short : length t < largest → log_of kind text t room ≡ ((refused 1, room), t)
   unfolding log_of
   log_short h = rw (lt-ltb (length t) largest h)
@@ -175,31 +174,37 @@ module _ (kind : Kind) (text t room : List ℕ) where
 
 module _ (kind : Kind) (text t room : List ℕ) (roomy : room_of kind ≤ length room) where
   -- the pen is past the log, and nowhere else
-  inked : into (At 0, room) (log_text kind text t)
+  inked : into (Some 0, room) (log_text kind text t)
       ≡ (
-        (At (length (log_text kind text t).0), (log_text kind text t).0 ++ drop (length (log_text kind text t).0) room),
+        (Some (length (log_text kind text t).0), (log_text kind text t).0 ++ drop (length (log_text kind text t).0) room),
         (log_text kind text t).1,
       )
   inked =
       let fits = log_fits kind text t in
-      ap (λ (x : Pen × List ℕ). (x, (log_text kind text t).1)) (ink_all room (log_text kind text t).0 (omega arith))
+      ap (λ (x : Page). (x, (log_text kind text t).1)) (ink_all room (log_text kind text t).0 (omega arith))
 
-  pub log_laid : {after u : List ℕ} {n : ℕ} → largest ≤ length t → into (At 0, room) (log_text kind text t) ≡ ((At n, after), u)
+  pub log_laid : {after u : List ℕ} {n : ℕ} → largest ≤ length t → into (Some 0, room) (log_text kind text t) ≡ ((Some n, after), u)
       → log_of kind text t room ≡ ((says n, after), u)
   unfolding log_of put_log
   log_laid {after} {u} {n} long e =
       let same = sym inked ∙ e in
-      let at : ◌≡◌ {A = Pen} (At (length (log_text kind text t).0)) (At n) = ap (λ y. y.0.0) same in
+      let at : ◌≡◌ {A = Option ℕ} (Some (length (log_text kind text t).0)) (Some n) = ap (λ y. y.0.0) same in
       let count : length (log_text kind text t).0 ≡ n = cc in
       let bytes = ap (λ y. y.0.1) same in
       let table = ap (λ y. y.1) same in
       rw (le-ltb (length t) largest long, le-ltb (length room) (room_of kind) roomy, bytes, table, count)
 
-  pub never_full : {after u : List ℕ} → into (At 0, room) (log_text kind text t) ≡ ((Full, after), u) → ⊥
+  pub never_full : {after u : List ℕ} → into (Some 0, room) (log_text kind text t) ≡ ((None, after), u) → ⊥
   never_full e =
-      let at : ◌≡◌ {A = Pen} (At (length (log_text kind text t).0)) Full = ap (λ y. y.0.0) (sym inked ∙ e) in
+      let at : ◌≡◌ {A = Option ℕ} (Some (length (log_text kind text t).0)) None = ap (λ y. y.0.0) (sym inked ∙ e) in
       let z : ◌≡◌ {A = ℕ} 0 1 = cc in
       omega arith
+
+  -- that the room is full is answered as refusal 12, but never met
+  pub log_written : {after u : List ℕ} (at : Option ℕ) → largest ≤ length t → into (Some 0, room) (log_text kind text t) ≡ ((at, after), u)
+      → log_of kind text t room ≡ ((answer_says (ok_or at Room), after), u)
+  log_written (Some n) long e = log_laid long e
+  log_written None long e = absurd (never_full e)
 
 -- the bytes that are answered are in the room
 pub log_within : (kind : Kind) (text t room after u : List ℕ) (n : ℕ) → log_of kind text t room ≡ ((says n, after), u) → n ≤ length after

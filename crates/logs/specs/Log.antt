@@ -1,5 +1,5 @@
 -- The log of a schedule's text, as document 01 says it of the bench program; and the bounds log, which the second log program prints.
-use Rattle.std.specs.Prelude.{ℕ, zero, suc, List, [], ◌++◌, cond, length, get_or, take, drop, replicate, ltb}
+use Rattle.std.specs.Prelude.{ℕ, zero, suc, List, [], ◌++◌, Option, Some, None, cond, length, get_or, take, drop, replicate, ltb}
 use Rattle.words.specs.declared.Sizes.{Sizes}
 use Rattle.words.specs.Layout.{queue}
 use Rattle.answers.specs.declared.End.{End}
@@ -10,13 +10,10 @@ use Rattle.text.specs.Answer.{Answer, gives, refuses}
 use Rattle.schedule.specs.Whole.{schedule_reading}
 use Rattle.fresh.specs.Fresh.{fresh_of}
 use Rattle.asks.specs.Listing.{listing_of}
-use Rattle.loglines.specs.declared.Beside.{Beside}
-use Rattle.loglines.specs.declared.Beside.TheVariants.{Nothing, Bound}
 use Rattle.loglines.specs.Lines.{text_line, sizes_line, line_of, queue_line, unquiet_line}
 use Rattle.play.specs.Play.{events_of}
 use Rattle.logs.specs.declared.Kind.{Kind}
 use Rattle.logs.specs.declared.Kind.TheVariants.{Plain, Bounds}
-use Rattle.logs.specs.declared.Logged.{Logged}
 
 -- `Q queue` and its listing, or `U queue`
 unfoldable pub listed_line : ℕ → Said ℕ × List ℕ → List ℕ
@@ -39,9 +36,9 @@ abbrev pub with_queues : Opening → List ℕ × List ℕ → List ℕ × List �
 with_queues o p = (p.0 ++ queues_of p.1 1 o.queues, p.1)
 
 -- what stands beside an enqueue's steps, among so many nodes: in the log nothing, in the bounds log their bound
-abbrev pub beside_of : Kind → ℕ → Beside
-beside_of Plain nodes = Nothing
-beside_of Bounds nodes = Bound nodes
+abbrev pub beside_of : Kind → ℕ → Option ℕ
+beside_of Plain nodes = None
+beside_of Bounds nodes = Some nodes
 
 -- the line of an ended operation
 abbrev pub line_in : Kind → Opening → End → List ℕ
@@ -79,8 +76,3 @@ unfoldable pub log_of : Kind → List ℕ → List ℕ → List ℕ → (Said �
 log_of kind text t room =
     cond (ltb (length t) largest) ((refused 1, room), t)
     (cond (ltb (length room) (room_of kind)) ((refused 12, room), t) (put_log (log_text kind text t) room))
-
--- which of these each answer of the code is
-abbrev pub log_says : Logged → Said ℕ
-log_says (Logged.Bytes n) = says n
-log_says (Logged.Refused r) = refused r

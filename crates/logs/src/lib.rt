@@ -2,10 +2,10 @@
 #![tactic(auto)]
 
 ghost use Rattle.std.specs.Prelude.{◌≡◌};
-ghost use Rattle.loglines.specs.declared.Pen.TheVariants.{At};
-ghost use Rattle.loglines.specs.Ink.{ink};
+ghost use Rattle.answers.specs.Said.{answer_says};
+ghost use Rattle.loglines.specs.Ink.{Writes};
 ghost use Rattle.fresh.specs.Fresh.{fresh_of};
-ghost use Rattle.play.specs.Parts.{into};
+ghost use Rattle.play.specs.Parts.{into, Plays};
 ghost use Rattle.logs.specs.Log.{
   queue_of,
   queues_of,
@@ -13,28 +13,20 @@ ghost use Rattle.logs.specs.Log.{
   beside_of,
   log_text,
   room_of,
-  log_says,
   log_of,
 };
 ghost use Rattle.logs.specs.Parts.{placed_log};
 
-use answers::{Counted, Done};
-use loglines::{Beside, Pen};
+use answers::Refusal;
+use loglines::Pen;
 use text::{BadLine, Opening};
 use words::Queue;
 
 // The log as it is, or the bounds log: the bound on its steps stands last in each E line.
-#[derive(Clone, Copy)]
+#[derive(Clone, Copy, PartialEq, Eq, Debug)]
 pub enum Kind {
     Plain,
     Bounds,
-}
-
-// The log's length; or the refusal of a table or a room that is too small.
-#[derive(Clone, Copy)]
-pub enum Logged {
-    Bytes(usize),
-    Refused(u16),
 }
 
 // The words of the largest table, and the bytes that every log of its kind fits.
@@ -44,92 +36,94 @@ pub const ROOM: usize = 393216;
 
 pub const BOUNDS_ROOM: usize = 458752;
 
-fn room_of(kind: Kind) -> usize
-    ensures { result ≡ room_of kind }
-{
-    match kind {
-        Kind::Plain => ROOM,
-        Kind::Bounds => BOUNDS_ROOM,
+impl Kind {
+    fn room(self) -> usize
+        ensures { result ≡ room_of self }
+    {
+        match self {
+            Kind::Plain => ROOM,
+            Kind::Bounds => BOUNDS_ROOM,
+        }
     }
-}
 
-// What stands beside an enqueue's steps in this log, of a table of so many nodes.
-fn beside_of(kind: Kind, nodes: u16) -> Beside
-    ensures { result ≡ beside_of kind nodes }
-{
-    match kind {
-        Kind::Plain => Beside::Nothing,
-        Kind::Bounds => Beside::Bound(nodes),
+    // The nodes of the table whose bound stands beside an enqueue's steps, if one does.
+    fn bound_nodes(self, nodes: u16) -> Option<u16>
+        ensures { result ≡ beside_of self nodes }
+    {
+        match self {
+            Kind::Plain => None,
+            Kind::Bounds => Some(nodes),
+        }
     }
 }
 
 // The queue's last line.
-fn write_queue(table: &[u16], room: &mut [u8], pen: Pen, q: Queue) -> Pen
-    ensures { ink (pen, room.old) (queue_of table.now q.0) ≡ (result, room.new) }
+fn write_queue(table: &[u16], pen: &mut Pen, q: Queue)
+    ensures { Writes pen.old pen.new (queue_of table.now q.0) }
 {
     let mut nodes = [0u16; 1024];
     match asks::listing(table, q, &mut nodes) {
-        Counted::Are(n) => loglines::put_queue(room, pen, q, &nodes, words::wide(n)),
-        Counted::Refused(_) => loglines::put_unquiet(room, pen, q),
+        Ok(n) => pen.put_queue(q, &nodes[..usize::from(n)]),
+        Err(_) => pen.put_unquiet(q),
     }
 }
 
-fn write_queues(table: &[u16], room: &mut [u8], pen: Pen, queues: u16) -> Pen
-    ensures { ink (pen, room.old) (queues_of table.now 1 queues) ≡ (result, room.new) }
+fn write_queues(table: &[u16], pen: &mut Pen, queues: u16)
+    ensures { Writes pen.old pen.new (queues_of table.now 1 queues) }
 {
-    let mut next = pen;
-    let mut i: u16 = 0;
-    while i < queues {
-        i += 1;
-        next = write_queue(table, room, next, Queue(i));
+    for i in 0..queues {
+        write_queue(table, pen, Queue(i + 1));
     }
-    next
 }
 
 // The log of a text that is right, whose events start at place.
-fn write_played(
-    kind: Kind,
-    text: &[u8],
-    place: usize,
-    o: Opening,
-    table: &mut [u16],
-    room: &mut [u8],
-) -> Pen
-    ensures { into (At 0, room.old) (placed_log kind o text.now place (fresh_of (opening_sizes o) table.old)) ≡ ((result, room.new), table.new) }
+fn write_played(kind: Kind, text: &[u8], place: usize, o: Opening, table: &mut [u16], pen: &mut Pen)
+    ensures { Plays pen.old pen.new (placed_log kind o text.now place (fresh_of (opening_sizes o) table.old)) table.new }
 {
     match fresh::fresh_table(table, o.levels, o.queues, o.nodes) {
-        Done::Yes => {
-            let beside = beside_of(kind, o.nodes);
-            let pen = play::play_events(text, place, o.events, table, room, Pen::At(0), beside);
-            write_queues(table, room, pen, o.queues)
+        Ok(()) => {
+            play::play_events(text, place, o.events, table, pen, kind.bound_nodes(o.nodes));
+            write_queues(table, pen, o.queues);
         }
-        Done::Refused(_) => loglines::put(room, Pen::At(0), b"R 0 2\n"),
+        Err(_) => pen.put(b"R 0 2\n"),
     }
 }
 
 // The log of any text, as far as the room reaches.
-fn write_whole(kind: Kind, text: &[u8], table: &mut [u16], room: &mut [u8]) -> Pen
-    ensures { into (At 0, room.old) (log_text kind text.now table.old) ≡ ((result, room.new), table.new) }
+fn write_whole(kind: Kind, text: &[u8], table: &mut [u16], pen: &mut Pen)
+    ensures { Plays pen.old pen.new (log_text kind text.now table.old) table.new }
 {
     match schedule::check_text(text) {
-        Ok((o, place)) => write_played(kind, text, place, o, table, room),
-        Err(BadLine(line)) => loglines::put_text_refusal(room, Pen::At(0), line),
+        Ok((o, place)) => write_played(kind, text, place, o, table, pen),
+        Err(BadLine(line)) => pen.put_text_refusal(line),
     }
 }
 
-// Writes the log of a schedule's text into the room, and answers its length. The table is for its work.
-pub fn write_log(kind: Kind, text: &[u8], table: &mut [u16], room: &mut [u8]) -> Logged
-    ensures { log_of kind text.now table.old room.old ≡ ((log_says result, room.new), table.new) }
+// The log of any text at the room's start, as far as the room reaches: how many bytes it has, if it fits.
+fn write_from_start(kind: Kind, text: &[u8], table: &mut [u16], room: &mut [u8]) -> Option<usize>
+    ensures { into (Some 0, room.old) (log_text kind text.now table.old) ≡ ((result, room.new), table.new) }
+{
+    let mut pen = Pen { room, at: Some(0) };
+    write_whole(kind, text, table, &mut pen);
+    pen.at
+}
+
+// Writes the log of a schedule's text into the room, and answers its length; a table or a room that is too small is refused. The table is
+// for its work.
+pub fn write_log(
+    kind: Kind,
+    text: &[u8],
+    table: &mut [u16],
+    room: &mut [u8],
+) -> Result<usize, Refusal>
+    ensures { log_of kind text.now table.old room.old ≡ ((answer_says result, room.new), table.new) }
 {
     if table.len() < TABLE {
-        return Logged::Refused(1);
+        return Err(Refusal::Table);
     }
-    if room.len() < room_of(kind) {
-        return Logged::Refused(12);
+    if room.len() < kind.room() {
+        return Err(Refusal::Room);
     }
-    match write_whole(kind, text, table, room) {
-        Pen::At(n) => Logged::Bytes(n),
-        // never: every log fits its room
-        Pen::Full => Logged::Refused(12),
-    }
+    // an Ok: every log fits its room
+    write_from_start(kind, text, table, room).ok_or(Refusal::Room)
 }

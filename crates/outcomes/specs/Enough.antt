@@ -1,12 +1,10 @@
 -- Room that is enough: the lines of any tallies fit into 262,144 bytes, and no more bytes are answered than the room has.
 use Prim.Native.Nat.{ℕ, zero, suc, ◌+◌, ◌*◌, ◌/◌, ◌%◌, ◌≤◌, ◌<◌}
-use Rattle.std.specs.Prelude.{◌≡◌, refl, Bool, true, false, cond, length, get_or, set, drop, ltb, eqb}
+use Rattle.std.specs.Prelude.{◌≡◌, refl, Bool, true, false, Some, None, cond, length, get_or, set, drop, ltb, eqb}
 use Rattle.std.proofs.Common.{ap, length-append, length-set, ltb-true, lt-ltb}
 use mathlib.Core.List.{List, [], ◌∷◌, ◌++◌}
 use native.Mathlib.Omega.{arith}
-use Rattle.loglines.specs.declared.Pen.{Pen}
-use Rattle.loglines.specs.declared.Pen.TheVariants.{At, Full}
-use Rattle.loglines.specs.Ink.{ink_one, ink}
+use Rattle.loglines.specs.Ink.{Page, ink_one, ink}
 use Rattle.loglines.specs.Laws.{ink_all}
 use Rattle.outcomes.specs.declared.Written.{Written}
 use Rattle.outcomes.specs.declared.Written.TheVariants.{Bytes, Refused}
@@ -156,33 +154,33 @@ lines_all room ts queues h =
 
 -- ---- no more bytes than the room has
 
-abbrev Within : Pen × List ℕ → Type 0
-Within (At n, room) = n ≤ length room
-Within (Full, room) = Unit
+abbrev Within : Page → Type 0
+Within (Some n, room) = n ≤ length room
+Within (None, room) = Unit
 
-one_within : (x : Pen × List ℕ) (b : ℕ) → Within x → Within (ink_one x b)
+one_within : (x : Page) (b : ℕ) → Within x → Within (ink_one x b)
 unfolding ink_one
-one_within (At at, room) b h = by (ltb at (length room)) refl
+one_within (Some at, room) b h = by (ltb at (length room)) refl
   where
-    by : (t : Bool) → ltb at (length room) ≡ t → Within (cond t (At (at + 1), set room at b) (Full, room))
+    by : (t : Bool) → ltb at (length room) ≡ t → Within (cond t (Some (at + 1), set room at b) (None, room))
     by true e = rw length-set (omega (arith, ltb-true at (length room) e))
     by false e = tt
-one_within (Full, room) b h = tt
+one_within (None, room) b h = tt
 
-ink_within : (x : Pen × List ℕ) (bs : List ℕ) → Within x → Within (ink x bs)
+ink_within : (x : Page) (bs : List ℕ) → Within x → Within (ink x bs)
 unfolding ink
 ink_within x [] h = h
 ink_within x (b ∷ bs) h = ink_within (ink_one x b) bs (one_within x b h)
 
 pub lines_within : (room text after : List ℕ) (n : ℕ) → put_lines room text ≡ (Bytes n, after) → n ≤ length after
 unfolding put_lines
-lines_within room text after n e = by (ink (At 0, room) text) (ink_within (At 0, room) text (omega arith)) e
+lines_within room text after n e = by (ink (Some 0, room) text) (ink_within (Some 0, room) text (omega arith)) e
   where
-    by : (x : Pen × List ℕ) → Within x → pen_says x ≡ (Bytes n, after) → n ≤ length after
-    by (At m, r) h e =
+    by : (x : Page) → Within x → pen_says x ≡ (Bytes n, after) → n ≤ length after
+    by (Some m, r) h e =
         let f : ◌≡◌ {A = Written} (Bytes m) (Bytes n) = ap (λ q. q.0) e in
         let g : r ≡ after = ap (λ q. q.1) e in
         let k : m ≡ n = cc in
         omega (arith, ap length g)
-    by (Full, r) h e =
+    by (None, r) h e =
         let f : ◌≡◌ {A = Written} (Refused 12) (Bytes n) = ap (λ q. q.0) e in let z : ◌≡◌ {A = ℕ} 0 1 = cc in absurd (omega arith)

@@ -2,11 +2,11 @@
 // and written as lines.
 #![tactic(auto)]
 
-ghost use Rattle.std.specs.Prelude.{◌≡◌, true, ◌+◌, ◌*◌, ◌%◌, ◌≤◌, ◌<◌, [], ◌∷◌, length, take};
+ghost use Rattle.std.specs.Prelude.{◌≡◌, true, ◌+◌, ◌*◌, ◌%◌, ◌≤◌, ◌<◌, [], ◌∷◌, Some, length, take};
 ghost use Rattle.words.specs.declared.Measured.TheVariants.{Sized};
 ghost use Rattle.words.specs.Layout.{limits, measured, words};
 ghost use Rattle.fresh.specs.Fresh.{fresh_of};
-ghost use Rattle.loglines.specs.Ink.{ink};
+ghost use Rattle.loglines.specs.Ink.{ink, Writes};
 ghost use Rattle.outcomes.specs.Notes.{note_one, note};
 ghost use Rattle.outcomes.specs.Outcomes.{
   into,
@@ -44,7 +44,6 @@ ghost use Rattle.outcomes.specs.Lines.{
   others_line,
   count_line,
   counted_text,
-  written_of,
   put_lines,
 };
 
@@ -428,131 +427,130 @@ fn number_in(tallies: &[u64], key: usize, j: usize) -> u16
     part_of(tallies[key + j / 4], j % 4)
 }
 
-fn put_digit(room: &mut [u8], pen: Pen, n: u64) -> Pen
-    ensures { ink (pen, room.old) ((48 + n % 10) ∷ []) ≡ (result, room.new) }
+fn put_digit(pen: &mut Pen, n: u64)
+    ensures { Writes pen.old pen.new ((48 + n % 10) ∷ []) }
 {
-    let digit = [48 + (n % 10) as u8];
-    loglines::put(room, pen, &digit)
+    pen.put(&[48 + (n % 10) as u8]);
 }
 
 // The last w digits of n at most.
-fn put_digits(room: &mut [u8], pen: Pen, w: usize, n: u64) -> Pen
-    ensures { ink (pen, room.old) (decimal_in w n) ≡ (result, room.new) }
+fn put_digits(pen: &mut Pen, w: usize, n: u64)
+    ensures { Writes pen.old pen.new (decimal_in w n) }
 {
     if w == 0 {
-        pen
-    } else if n < 10 {
-        put_digit(room, pen, n)
+        return;
+    }
+    if n < 10 {
+        put_digit(pen, n)
     } else {
-        let next = put_digits(room, pen, w - 1, n / 10);
-        put_digit(room, next, n)
+        put_digits(pen, w - 1, n / 10);
+        put_digit(pen, n)
     }
 }
 
-fn put_decimal(room: &mut [u8], pen: Pen, n: u64) -> Pen
-    ensures { ink (pen, room.old) (decimal_of n) ≡ (result, room.new) }
+fn put_decimal(pen: &mut Pen, n: u64)
+    ensures { Writes pen.old pen.new (decimal_of n) }
 {
-    put_digits(room, pen, 20, n)
+    put_digits(pen, 20, n);
 }
 
 // ` NODE` or ` empty`
-fn put_value(room: &mut [u8], pen: Pen, x: u16) -> Pen
-    ensures { ink (pen, room.old) (value_text x) ≡ (result, room.new) }
+fn put_value(pen: &mut Pen, x: u16)
+    ensures { Writes pen.old pen.new (value_text x) }
 {
     if x == 0 {
-        loglines::put(room, pen, b" empty")
+        pen.put(b" empty")
     } else {
-        let next = loglines::put(room, pen, b" ");
-        put_decimal(room, next, long(x))
+        pen.put(b" ");
+        put_decimal(pen, u64::from(x))
     }
 }
 
 // ` queue NUMBER`
-fn put_queue(room: &mut [u8], pen: Pen, q: u16) -> Pen
-    ensures { ink (pen, room.old) (queue_head q) ≡ (result, room.new) }
+fn put_queue(pen: &mut Pen, q: u16)
+    ensures { Writes pen.old pen.new (queue_head q) }
 {
-    let next = loglines::put(room, pen, b" queue ");
-    put_decimal(room, next, long(q))
+    pen.put(b" queue ");
+    put_decimal(pen, u64::from(q));
 }
 
 // What the dequeues returned, and then each queue with its nodes.
-fn put_numbers(room: &mut [u8], pen: Pen, tallies: &[u64], key: usize, queues: u16) -> Pen
+fn put_numbers(pen: &mut Pen, tallies: &[u64], key: usize, queues: u16)
     requires { key + 4 ≤ length tallies.now }
-    ensures { ink (pen, room.old) (numbers_text 16 tallies.now key 0 queues 0) ≡ (result, room.new) }
+    ensures { Writes pen.old pen.new (numbers_text 16 tallies.now key 0 queues 0) }
 {
-    let mut next = pen;
     let mut q: u16 = 0;
-    let mut j = 0;
-    while j < 16 {
+    for j in 0..16 {
         let x = number_in(tallies, key, j);
-        j += 1;
-        if x == MARK {
-            if q < queues {
-                q += 1;
-                next = put_queue(room, next, q);
-            } else {
-                return next;
-            }
+        if x != MARK {
+            put_value(pen, x);
+        } else if q < queues {
+            q += 1;
+            put_queue(pen, q);
         } else {
-            next = put_value(room, next, x);
+            return;
         }
     }
-    next
 }
 
 // `COUNT returned A B .. queue 1 X Y .. queue 2 Z ..`
-fn put_outcome(room: &mut [u8], pen: Pen, tallies: &[u64], i: usize, queues: u16) -> Pen
+fn put_outcome(pen: &mut Pen, tallies: &[u64], i: usize, queues: u16)
     requires { (5122 ≤ length tallies.now) × (i < 1024) }
-    ensures { ink (pen, room.old) (outcome_line tallies.now i queues) ≡ (result, room.new) }
+    ensures { Writes pen.old pen.new (outcome_line tallies.now i queues) }
 {
     let at = 2 + 5 * i;
-    let count = put_decimal(room, pen, tallies[at]);
-    let head = loglines::put(room, count, b" returned");
-    let last = put_numbers(room, head, tallies, at + 1, queues);
-    loglines::put(room, last, b"\n")
+    put_decimal(pen, tallies[at]);
+    pen.put(b" returned");
+    put_numbers(pen, tallies, at + 1, queues);
+    pen.put(b"\n");
 }
 
-fn put_outcomes(room: &mut [u8], pen: Pen, tallies: &[u64], n: usize, queues: u16) -> Pen
+fn put_outcomes(pen: &mut Pen, tallies: &[u64], n: usize, queues: u16)
     requires { (5122 ≤ length tallies.now) × (n ≤ 1024) }
-    ensures { ink (pen, room.old) (outcome_lines n tallies.now 0 queues) ≡ (result, room.new) }
+    ensures { Writes pen.old pen.new (outcome_lines n tallies.now 0 queues) }
 {
-    let mut next = pen;
-    let mut i = 0;
-    while i < n {
-        next = put_outcome(room, next, tallies, i, queues);
-        i += 1;
+    for i in 0..n {
+        put_outcome(pen, tallies, i, queues);
     }
-    next
 }
 
 // `COUNT other`, if there are any
-fn put_others(room: &mut [u8], pen: Pen, n: u64) -> Pen
-    ensures { ink (pen, room.old) (others_line n) ≡ (result, room.new) }
+fn put_others(pen: &mut Pen, n: u64)
+    ensures { Writes pen.old pen.new (others_line n) }
 {
     if n == 0 {
-        pen
-    } else {
-        let count = put_decimal(room, pen, n);
-        loglines::put(room, count, b" other\n")
+        return;
     }
-}
-
-fn written_of(pen: Pen) -> Written
-    ensures { result ≡ written_of pen }
-{
-    match pen {
-        Pen::At(n) => Written::Bytes(n),
-        Pen::Full => Written::Refused(12),
-    }
+    put_decimal(pen, n);
+    pen.put(b" other\n")
 }
 
 // `schedules COUNT`
-fn put_count(room: &mut [u8], pen: Pen, n: u64) -> Pen
-    ensures { ink (pen, room.old) (count_line n) ≡ (result, room.new) }
+fn put_count(pen: &mut Pen, n: u64)
+    ensures { Writes pen.old pen.new (count_line n) }
 {
-    let head = loglines::put(room, pen, b"schedules ");
-    let count = put_decimal(room, head, n);
-    loglines::put(room, count, b"\n")
+    pen.put(b"schedules ");
+    put_decimal(pen, n);
+    pen.put(b"\n");
+}
+
+fn put_counted(pen: &mut Pen, count: u64, tallies: &[u64], queues: u16)
+    requires { 5122 ≤ length tallies.now }
+    ensures { Writes pen.old pen.new (counted_text count tallies.now queues) }
+{
+    put_count(pen, count);
+    put_outcomes(pen, tallies, known(tallies), queues);
+    put_others(pen, tallies[1]);
+}
+
+// The lines at the room's start: how many bytes they have, if the room reaches.
+fn write_counted(count: u64, tallies: &[u64], queues: u16, room: &mut [u8]) -> Option<usize>
+    requires { 5122 ≤ length tallies.now }
+    ensures { ink (Some 0, room.old) (counted_text count tallies.now queues) ≡ (result, room.new) }
+{
+    let mut pen = Pen { room, at: Some(0) };
+    put_counted(&mut pen, count, tallies, queues);
+    pen.at
 }
 
 // How many schedules there are, then a line for each outcome in the order of their first schedules, and one for the others.
@@ -560,7 +558,8 @@ pub fn write_outcomes(count: u64, tallies: &[u64], queues: u16, room: &mut [u8])
     requires { 5122 ≤ length tallies.now }
     ensures { put_lines room.old (counted_text count tallies.now queues) ≡ (result, room.new) }
 {
-    let first = put_count(room, Pen::At(0), count);
-    let pen = put_outcomes(room, first, tallies, known(tallies), queues);
-    written_of(put_others(room, pen, tallies[1]))
+    match write_counted(count, tallies, queues, room) {
+        Some(n) => Written::Bytes(n),
+        None => Written::Refused(12),
+    }
 }

@@ -1,16 +1,21 @@
 -- What the parts of the performing promise each other.
-use Rattle.std.specs.Prelude.{ℕ, zero, suc, List, []}
+use Rattle.std.specs.Prelude.{ℕ, zero, suc, ◌≡◌, List, []}
 use Rattle.answers.specs.declared.End.{End}
 use Rattle.text.specs.declared.Event.{Event}
 use Rattle.text.specs.Answer.{Answer, gives, refuses}
 use Rattle.text.specs.Reading.{event_reading}
 use Rattle.loglines.specs.declared.Pen.{Pen}
-use Rattle.loglines.specs.Ink.{ink}
+use Rattle.loglines.specs.Ink.{Page, page, ink}
 use Rattle.play.specs.Play.{event_of, follow}
 
 -- what is written, and what came of it
-abbrev pub into : {A : Type 0} → Pen × List ℕ → List ℕ × A → (Pen × List ℕ) × A
+abbrev pub into : {A : Type 0} → Page → List ℕ × A → Page × A
 into x p = (ink x p.0, p.1)
+
+-- the pen q is p after the lines of x, in the same room; a came of it
+pub record Plays {A : Type 0} (p q : Pen) (x : List ℕ × A) (a : A) : Type 0 where
+  pub same_room : q.room.ghost_name ≡ p.room.ghost_name
+  pub played : into (page p) x ≡ (page q, a)
 
 module _ (line : End → List ℕ) where
   abbrev pub read_then : ℕ → (ℕ → List ℕ → List ℕ × List ℕ) → List ℕ → Answer (Event × ℕ) → List ℕ × List ℕ

@@ -1,116 +1,75 @@
 // The events of a schedule, performed in order; what ends and what is refused goes into the log.
 #![tactic(auto)]
 
-ghost use Rattle.std.specs.Prelude.{◌≡◌};
-ghost use Rattle.answers.specs.Said.{done_says};
+ghost use Rattle.answers.specs.Said.{answer_says};
 ghost use Rattle.loglines.specs.Lines.{line_of};
 ghost use Rattle.play.specs.Play.{steps_of, event_of};
-ghost use Rattle.play.specs.Parts.{into, at_place};
+ghost use Rattle.play.specs.Parts.{Plays, at_place};
 
-use answers::{Done, Ran};
-use loglines::{Beside, Pen};
+use answers::{Refusal, Why};
+use loglines::Pen;
 use text::Event;
 
-// The log so far, and whether the event was refused.
-#[derive(Clone, Copy)]
-pub struct Turn {
-    pub pen: Pen,
-    pub done: Done,
-}
-
-fn play_steps(table: &mut [u16], room: &mut [u8], pen: Pen, count: u16, beside: Beside) -> Turn
-    ensures { into (pen, room.old) (steps_of (line_of beside) count table.old) ≡ ((result.pen, room.new), (done_says result.done, table.new)) }
+fn play_steps(
+    table: &mut [u16],
+    pen: &mut Pen,
+    count: u16,
+    bound_nodes: Option<u16>,
+) -> Result<(), Refusal>
+    ensures { Plays pen.old pen.new (steps_of (line_of bound_nodes) count table.old) (answer_says result, table.new) }
 {
-    let mut next = pen;
     let mut left = count;
     while 0 < left {
-        match steps::run(table, left) {
-            Ran::Ended(n, e) => {
-                next = loglines::put_end(room, next, e, beside);
-                left -= n;
+        let ran = steps::run(table, left)?;
+        match ran.why {
+            Why::Ended(e) => {
+                pen.put_end(e, bound_nodes);
+                left -= ran.steps;
             }
-            Ran::Spent(_) => {
-                return Turn {
-                    pen: next,
-                    done: Done::Yes,
-                };
-            }
-            Ran::Idle(_) => {
-                return Turn {
-                    pen: next,
-                    done: Done::Refused(9),
-                };
-            }
-            Ran::Damaged(_) => {
-                return Turn {
-                    pen: next,
-                    done: Done::Refused(10),
-                };
-            }
-            Ran::Refused(r) => {
-                return Turn {
-                    pen: next,
-                    done: Done::Refused(r),
-                };
-            }
+            Why::Spent => return Ok(()),
+            Why::Idle => return Err(Refusal::Idle),
+            Why::Damaged => return Err(Refusal::Damaged),
         }
     }
-    Turn {
-        pen: next,
-        done: Done::Yes,
-    }
+    Ok(())
 }
 
-fn play_event(table: &mut [u16], room: &mut [u8], pen: Pen, e: Event, beside: Beside) -> Turn
-    ensures { into (pen, room.old) (event_of (line_of beside) e table.old) ≡ ((result.pen, room.new), (done_says result.done, table.new)) }
+fn play_event(
+    table: &mut [u16],
+    pen: &mut Pen,
+    e: Event,
+    bound_nodes: Option<u16>,
+) -> Result<(), Refusal>
+    ensures { Plays pen.old pen.new (event_of (line_of bound_nodes) e table.old) (answer_says result, table.new) }
 {
     match e {
-        Event::Enqueue(l, q, n) => {
-            let done = begins::begin_enqueue(table, l, q, n);
-            Turn { pen, done }
-        }
-        Event::Dequeue(l, q) => {
-            let done = begins::begin_dequeue(table, l, q);
-            Turn { pen, done }
-        }
-        Event::Steps(count) => play_steps(table, room, pen, count, beside),
+        Event::Enqueue(l, q, n) => begins::begin_enqueue(table, l, q, n),
+        Event::Dequeue(l, q) => begins::begin_dequeue(table, l, q),
+        Event::Steps(count) => play_steps(table, pen, count, bound_nodes),
     }
 }
 
-// So many events of the text from place on.
+// So many events of the text from place on. Beside the steps of an enqueue stands the bound on them in a table of so many nodes, if their
+// number is given.
 pub fn play_events(
     text: &[u8],
     place: usize,
     count: u16,
     table: &mut [u16],
-    room: &mut [u8],
-    pen: Pen,
-    beside: Beside,
-) -> Pen
-    ensures { into (pen, room.old) (at_place (line_of beside) count 1 text.now place table.old) ≡ ((result, room.new), table.new) }
+    pen: &mut Pen,
+    bound_nodes: Option<u16>,
+)
+    ensures { Plays pen.old pen.new (at_place (line_of bound_nodes) count 1 text.now place table.old) table.new }
 {
-    let mut next = pen;
     let mut at = place;
-    let mut i: u16 = 0;
-    while i < count {
-        i += 1;
-        match reader::event_at(text, at) {
-            Ok((e, after)) => {
-                at = after;
-                let turn = play_event(table, room, next, e, beside);
-                next = turn.pen;
-                let done = turn.done;
-                match done {
-                    Done::Yes => {}
-                    Done::Refused(r) => {
-                        return loglines::put_refusal(room, next, i, r);
-                    }
-                }
-            }
-            Err(_) => {
-                return next;
-            }
+    for i in 0..count {
+        let Ok((e, after)) = reader::event_at(text, at) else {
+            return;
+        };
+        at = after;
+        if let Err(r) = play_event(table, pen, e, bound_nodes) {
+            pen.put_refusal(i + 1, r.into());
+            return;
         }
     }
-    next
 }

@@ -1,7 +1,8 @@
 #![tactic(auto)]
 // What the log programs do: a schedule on standard input, its log on standard output.
-use logs::{Kind, Logged};
-use streams::Input;
+ghost use Rattle.std.specs.Prelude.{◌<◌, ◌^◌};
+
+use logs::Kind;
 
 // In lent text, table and room: 65,537 bytes of text, so that one too many is seen, and what write_log asks for.
 pub fn print_log(
@@ -11,13 +12,23 @@ pub fn print_log(
     table: &mut [u16],
     room: &mut [u8],
 ) {
-    let Input::Bytes(n) = streams::read_input(rt, text) else {
+    let Some(n) = streams::read_input(rt, text) else {
         return;
     };
     match logs::write_log(kind, &text[..n], table, room) {
-        Logged::Bytes(m) => {
+        Ok(m) => {
             streams::write_output(rt, &room[..m]);
         }
-        Logged::Refused(_) => streams::say(rt, b"bench: the table or the room is too small\n"),
+        Err(_) => streams::say(rt, b"bench: the table or the room is too small\n"),
     }
+}
+
+// The same with a text, a table and a room of its own: of so many bytes as every log of its kind fits.
+pub fn run<const ROOM: usize>(rt: &HostRuntime, kind: Kind)
+    requires { ROOM < 2 ^ 63 }
+{
+    let mut text = [0u8; 65537];
+    let mut table = [0u16; logs::TABLE];
+    let mut room = [0u8; ROOM];
+    print_log(rt, kind, &mut text, &mut table, &mut room);
 }

@@ -3,20 +3,11 @@
 //
 // ./bench goes by what a program wrote on standard error, and not by its exit status. A line that begins `bench: ` says that the
 // program failed; any other line there is progress. Both are written through `say`, whole lines with their LF.
-ghost use Rattle.std.specs.Prelude.{◌≡◌, ℕ, ◌-◌, ◌<◌, ◌≤◌, take, drop, length, IfOk, OnErr};
+ghost use Rattle.std.specs.Prelude.{◌≡◌, ℕ, ◌-◌, ◌<◌, ◌≤◌, take, drop, length, IfSome, IfOk, OnErr};
 ghost use Rattle.std.specs.Io.KnownBytes.{Consumes, Keeps, IsAtEnd};
-ghost use Rattle.streams.specs.InRoom.{InRoom};
 
 use std::io;
 use std::io::Read;
-
-#[derive(Drop)]
-pub enum Input {
-    // So many bytes stand at the room's start: the input has ended there, or the room is full.
-    Bytes(usize),
-    // A read failed.
-    Failed,
-}
 
 // One line for the person who waits. Where it cannot be written, nobody is left to be told.
 pub fn say(rt: &HostRuntime, line: &[u8]) {
@@ -47,6 +38,7 @@ pub fn fill<R: Read>(input: &mut R, room: &mut [u8]) -> io::Result<usize>
         × Consumes (R.remaining input.old) (R.remaining input.new) (take n room.new)) }
 {
     let mut done = 0;
+    // kept: each turn is a read that brings as much as it will; no method of std answers how much came before the end or a failure
     while done < room.len() {
         let n = read_on(input, room, done)?;
         if n == 0 {
@@ -57,24 +49,23 @@ pub fn fill<R: Read>(input: &mut R, room: &mut [u8]) -> io::Result<usize>
     Ok(done)
 }
 
-// Reads standard input to its end, or until the room is full. A failure has been said when this answers it.
-pub fn read_input(rt: &HostRuntime, room: &mut [u8]) -> Input
-    ensures { InRoom result (length room.new) }
+// Reads standard input to its end, or until the room is full, and answers how many bytes stand at the room's start; none, where a read
+// failed, which has been said.
+pub fn read_input(rt: &HostRuntime, room: &mut [u8]) -> Option<usize>
+    ensures { IfSome result (λ n. n ≤ length room.new) }
 {
-    match fill(&mut rt.stdin(), room) {
-        Ok(n) => Input::Bytes(n),
-        Err(_) => {
-            say(rt, b"bench: standard input could not be read\n");
-            Input::Failed
-        }
+    let read = fill(&mut rt.stdin(), room);
+    if read.is_err() {
+        say(rt, b"bench: standard input could not be read\n");
     }
+    read.ok()
 }
 
 // Writes the bytes to standard output and answers whether all could be written. A failure has been said.
 pub fn write_output(rt: &HostRuntime, bytes: &[u8]) -> bool {
-    if rt.write_all(bytes).is_ok() {
-        return true;
+    let written = rt.write_all(bytes);
+    if written.is_err() {
+        say(rt, b"bench: standard output could not be written\n");
     }
-    say(rt, b"bench: standard output could not be written\n");
-    false
+    written.is_ok()
 }

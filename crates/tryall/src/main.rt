@@ -1,6 +1,5 @@
 #![tactic(auto)]
 // The program tries: every schedule of the task on standard input, or how many there are and their outcomes.
-use streams::Input;
 use trying::Asked;
 
 // 20,000 times tries::LONGEST: so many texts are listed in it without being measured first.
@@ -51,7 +50,7 @@ fn answer(rt: &HostRuntime, text: &[u8]) {
 
 fn main(rt: HostRuntime) {
     let mut text = [0u8; 65537];
-    if let Input::Bytes(n) = streams::read_input(&rt, &mut text) {
+    if let Some(n) = streams::read_input(&rt, &mut text) {
         answer(&rt, &text[..n]);
     }
 }

@@ -1,5 +1,5 @@
 -- What the proofs cite.
-use Rattle.std.specs.Prelude.{ℕ, ◌+◌, ◌*◌, ◌/◌, ◌≤◌, ◌<◌, ◌≡◌, refl, Bool, true, false, cond, List, [], ◌∷◌, length, take, drop, set, get_or, replicate, ltb, eqb}
+use Rattle.std.specs.Prelude.{ℕ, ◌+◌, ◌*◌, ◌/◌, ◌≤◌, ◌<◌, ◌≡◌, refl, Bool, true, false, Option, Some, None, cond, List, [], ◌∷◌, length, take, drop, set, get_or, replicate, ltb, eqb}
 use Rattle.std.proofs.Common.{sym, ◌∙◌, arith, add-one, length-set, drop_of_length-le, drop-cons, ltb-true, ltb-false, eq-eqb, ne_eqb}
 use Rattle.std.proofs.Math.Path.{ap}
 use Rattle.std.proofs.lemmas.List.Edits.{sets}
@@ -8,9 +8,7 @@ use Rattle.answers.specs.Said.{Said, refused, says}
 use Rattle.text.specs.declared.Opening.{Opening}
 use Rattle.text.specs.declared.Event.{Event}
 use Rattle.text.specs.Answer as answer
-use Rattle.loglines.specs.declared.Pen.{Pen}
-use Rattle.loglines.specs.declared.Pen.TheVariants.{At, Full}
-use Rattle.loglines.specs.Ink.{ink_one, ink}
+use Rattle.loglines.specs.Ink.{Page, ink_one, ink}
 use Rattle.loglines.specs.Lines.{text_line, refusal_line}
 use Rattle.outcomes.specs.declared.Written.{Written}
 use Rattle.outcomes.specs.declared.Written.TheVariants.{Bytes, Refused}
@@ -65,7 +63,7 @@ abbrev pub written_says : Written → Said (ℕ × Bool)
 written_says (Bytes n) = says (n, false)
 written_says (Refused r) = refused 12
 
-pub laid_is : {pen : Pen} {after : List ℕ} {said : Said (ℕ × Bool)} (line room : List ℕ) → ink (At 0, room) line ≡ (pen, after)
+pub laid_is : {pen : Option ℕ} {after : List ℕ} {said : Said (ℕ × Bool)} (line room : List ℕ) → ink (Some 0, room) line ≡ (pen, after)
     → said ≡ pen_says pen → laid line room ≡ (said, after)
 unfolding laid
 laid_is line room e f = rw (e, f)
@@ -131,12 +129,12 @@ refused_told_holds told text ops after room number x e f = rw (task_wrong text o
 
 lines_laid : (room text after : List ℕ) (w : Written) → put_lines room text ≡ (w, after) → laid text room ≡ (written_says w, after)
 unfolding put_lines laid
-lines_laid room text after w e = by (ink (At 0, room) text) e
+lines_laid room text after w e = by (ink (Some 0, room) text) e
   where
-    by : (x : Pen × List ℕ) → ◌≡◌ {A = Written × List ℕ} (written_of x.0, x.1) (w, after)
+    by : (x : Page) → ◌≡◌ {A = Written × List ℕ} (written_of x.0, x.1) (w, after)
         → ◌≡◌ {A = Told} (pen_says x.0, x.1) (written_says w, after)
-    by (At n, r) f = ap (λ (u : Written × List ℕ). (written_says u.0, u.1)) f
-    by (Full, r) f = ap (λ (u : Written × List ℕ). (written_says u.0, u.1)) f
+    by (Some n, r) f = ap (λ (u : Written × List ℕ). (written_says u.0, u.1)) f
+    by (None, r) f = ap (λ (u : Written × List ℕ). (written_says u.0, u.1)) f
 
 module _ (o : Opening) (ws ts room after : List ℕ) where
   abbrev tally : Said ℕ × List ℕ
@@ -154,31 +152,31 @@ module _ (o : Opening) (ws ts room after : List ℕ) where
 
 -- ---- the bytes are in the room
 
-abbrev Within : Pen × List ℕ → Type 0
-Within (At n, room) = n ≤ length room
-Within (Full, room) = Unit {0}
+abbrev Within : Page → Type 0
+Within (Some n, room) = n ≤ length room
+Within (None, room) = Unit {0}
 
-one_within : (x : Pen × List ℕ) (b : ℕ) → Within x → Within (ink_one x b)
+one_within : (x : Page) (b : ℕ) → Within x → Within (ink_one x b)
 unfolding ink_one
-one_within (At at, room) b h = by (ltb at (length room)) refl
+one_within (Some at, room) b h = by (ltb at (length room)) refl
   where
-    by : (t : Bool) → ltb at (length room) ≡ t → Within (cond t (At (at + 1), set room at b) (Full, room))
+    by : (t : Bool) → ltb at (length room) ≡ t → Within (cond t (Some (at + 1), set room at b) (None, room))
     by true e = rw length-set (omega (arith, ltb-true at (length room) e))
     by false e = tt
-one_within (Full, room) b h = tt
+one_within (None, room) b h = tt
 
-ink_within : (bs : List ℕ) (x : Pen × List ℕ) → Within x → Within (ink x bs)
+ink_within : (bs : List ℕ) (x : Page) → Within x → Within (ink x bs)
 unfolding ink
 ink_within [] x h = h
 ink_within (b ∷ bs) x h = ink_within bs (ink_one x b) (one_within x b h)
 
 laid_in : (line room : List ℕ) → InRoom (laid line room).0 (length (laid line room).1)
 unfolding laid
-laid_in line room = by (ink (At 0, room) line) (ink_within line (At 0, room) (omega arith))
+laid_in line room = by (ink (Some 0, room) line) (ink_within line (Some 0, room) (omega arith))
   where
-    by : (x : Pen × List ℕ) → Within x → InRoom (pen_says x.0) (length x.1)
-    by (At n, r) w = w
-    by (Full, r) w = tt
+    by : (x : Page) → Within x → InRoom (pen_says x.0) (length x.1)
+    by (Some n, r) w = w
+    by (None, r) w = tt
 
 refused_in : (number : ℕ) (room : List ℕ) → InRoom (refused_told number room).0 (length (refused_told number room).1)
 unfolding refused_told

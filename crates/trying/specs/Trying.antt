@@ -1,12 +1,10 @@
 -- What is printed for a task's text: the texts of its schedules one after another, or their number and their outcomes; or one line that
 -- says why there are none.
-use Rattle.std.specs.Prelude.{ℕ, Bool, true, false, cond, List, [], ◌∷◌, replicate, eqb}
+use Rattle.std.specs.Prelude.{ℕ, Bool, true, false, Option, Some, None, cond, List, [], ◌∷◌, replicate, eqb}
 use Rattle.answers.specs.Said.{Said, refused, says}
 use Rattle.text.specs.declared.Opening.{Opening}
 use Rattle.text.specs.declared.Event.{Event}
 use Rattle.text.specs.Answer as answer
-use Rattle.loglines.specs.declared.Pen.{Pen}
-use Rattle.loglines.specs.declared.Pen.TheVariants.{At, Full}
 use Rattle.loglines.specs.Ink.{ink}
 use Rattle.loglines.specs.Lines.{text_line, refusal_line}
 use Rattle.tasks.specs.Tasks.{task_reading, all_words}
@@ -26,12 +24,12 @@ answer_says NoRoom = refused 12
 
 -- ---- bytes at the room's start
 
-abbrev pub pen_says : Pen → Said (ℕ × Bool)
-pen_says (At n) = says (n, false)
-pen_says Full = refused 12
+abbrev pub pen_says : Option ℕ → Said (ℕ × Bool)
+pen_says (Some n) = says (n, false)
+pen_says None = refused 12
 
 unfoldable pub laid : List ℕ → List ℕ → Told
-laid bytes room = (pen_says (ink (At 0, room) bytes).0, (ink (At 0, room) bytes).1)
+laid bytes room = (pen_says (ink (Some 0, room) bytes).0, (ink (Some 0, room) bytes).1)
 
 -- `R 0 number`
 unfoldable pub refused_told : ℕ → List ℕ → Told

@@ -1,7 +1,8 @@
 #![tactic(auto)]
 // What the program tries does: it reads a task, and prints its schedules, or how many there are and their outcomes.
-ghost use Rattle.std.specs.Prelude.{◌≡◌};
-ghost use Rattle.loglines.specs.Lines.{text_line};
+ghost use Rattle.std.specs.Prelude.{◌≡◌, Some};
+ghost use Rattle.loglines.specs.Ink.{ink};
+ghost use Rattle.loglines.specs.Lines.{text_line, refusal_line};
 ghost use Rattle.trying.specs.Trying.{
   pen_says,
   answer_says,
@@ -113,20 +114,37 @@ pub fn read_arguments(rt: &impl Env) -> Asked {
 
 // ---- the answer, in lent room
 
-fn answer_of(pen: Pen) -> Answer
-    ensures { answer_says result ≡ pen_says pen }
+// How many bytes are written, if the room reached.
+fn answer_of(written: Option<usize>) -> Answer
+    ensures { answer_says result ≡ pen_says written }
 {
-    match pen {
-        Pen::At(n) => Answer::Whole(n),
-        Pen::Full => Answer::NoRoom,
+    match written {
+        Some(n) => Answer::Whole(n),
+        None => Answer::NoRoom,
     }
+}
+
+fn write_wrong(line: usize, room: &mut [u8]) -> Option<usize>
+    ensures { ink (Some 0, room.old) (text_line line) ≡ (result, room.new) }
+{
+    let mut pen = Pen { room, at: Some(0) };
+    pen.put_text_refusal(line);
+    pen.at
 }
 
 // `T line`
 fn tell_wrong(line: usize, room: &mut [u8]) -> Answer
     ensures { laid (text_line line) room.old ≡ (answer_says result, room.new) }
 {
-    answer_of(loglines::put_text_refusal(room, Pen::At(0), line))
+    answer_of(write_wrong(line, room))
+}
+
+fn write_refused(number: u16, room: &mut [u8]) -> Option<usize>
+    ensures { ink (Some 0, room.old) (refusal_line 0 number) ≡ (result, room.new) }
+{
+    let mut pen = Pen { room, at: Some(0) };
+    pen.put_refusal(0, number);
+    pen.at
 }
 
 // `R 0 number`, but for the room that is too small
@@ -136,7 +154,7 @@ fn tell_refused(number: u16, room: &mut [u8]) -> Answer
     if number == 12 {
         return Answer::NoRoom;
     }
-    answer_of(loglines::put_refusal(room, Pen::At(0), 0, number))
+    answer_of(write_refused(number, room))
 }
 
 fn list_schedules(o: Opening, ops: &[u16], bound: u32, room: &mut [u8]) -> Answer

@@ -1,16 +1,18 @@
+use Rattle.std.proofs.Common.{◌∙◌}
 use Rattle.logs.specs.Laws.{placed_made, placed_refused}
 use Rattle.logs.proofs.write_played.Goals as goal
 
-pub returns-in-Yes : goal.returns-in-Yes
-returns-in-Yes c = let fresh_table_holds = c.fresh_table.ensures in
-    let told = c.in-Yes.is in
-    let beside_of = c.beside_of-beside.ensures in
-    let play_events = c.play_events-pen.ensures in
-    let write_queues = c.write_queues.ensures in
-    placed_made _ _ _ _ _ _ _ (rw told at fresh_table_holds) (rw beside_of at play_events) write_queues
+pub returns-in-Ok : goal.returns-in-Ok
+returns-in-Ok c =
+    let events = rw c.bound_nodes.ensures at c.play_events.ensures in
+    let queues = c.write_queues.ensures in
+    record {
+      same_room = queues.same_room ∙ events.same_room;
+      played = placed_made _ _ _ _ _ _ _ c.in-Ok.ensures events.played queues.inked;
+    }
 
-pub returns-in-Refused : goal.returns-in-Refused
-returns-in-Refused c = let fresh_table_holds = c.fresh_table.ensures in
-    let told2 = c.in-Refused.is in
-    let put = c.put.ensures in
-    placed_refused _ _ _ _ _ _ _ _ (rw told2 at fresh_table_holds) put
+pub returns-in-Err : goal.returns-in-Err
+returns-in-Err c = record {
+  same_room = c.put.ensures.same_room;
+  played = placed_refused _ _ _ _ _ _ _ _ c.in-Err.ensures c.put.ensures.inked;
+}

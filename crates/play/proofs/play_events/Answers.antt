@@ -1,40 +1,37 @@
-use mathlib.Core.Path.{refl, sym, ◌∙◌}
-use native.Mathlib.Omega.{arith}
+use Rattle.std.proofs.Common.{sym, ◌∙◌, arith}
 use Rattle.text.specs.Reading.{line_answer}
-use Rattle.play.specs.Laws.{event_played, event_refused, place_start, place_wrong, place_none}
-use borrow.Author.Rules.{rules}
+use Rattle.play.specs.Laws.{event_played, event_refused, place_wrong, place_none}
 use Rattle.play.proofs.play_events.Goals as goal
-
-pub loop-i-init : goal.loop-i-init
-loop-i-init c = (search rules, refl, refl, place_start _ _ _ _ _ _)
 
 pub loop-i-preserved : goal.loop-i-preserved
 unfolding line_answer
-loop-i-preserved c = let count = c.args.count in
-    let inv = c.loop-i.invariant.3 in
-    let i = c.loop-i.i in
-    let at' = c.loop-i.at in
-    let loop_test_taken = c.loop-i-test.true in
-    let play_event = c.play_event-turn.ensures in
-    let told = c.in-Yes.is in
-    let played = event_played _ _ _ count i _ at' _ _ _ _ loop_test_taken (sym c.in-Ok.ensures) (rw told at play_event) in
-    (search rules, search rules, search rules, inv ∙ played)
-
-pub returns-in-Refused : goal.returns-in-Refused
-unfolding line_answer
-returns-in-Refused c = let count = c.args.count in
-    let inv = c.loop-i.invariant.3 in
-    let i = c.loop-i.i in
-    let at' = c.loop-i.at in
-    let loop_test_taken = c.loop-i-test.true in
-    let play_event = c.play_event-turn.ensures in
-    let done_is = c.in-Refused.is in
-    let put_refusal = c.put_refusal.ensures in
-    inv ∙ event_refused _ _ _ count i _ at' _ _ _ _ loop_test_taken (sym c.in-Ok.ensures) _ _ (rw done_is at play_event) put_refusal
+loop-i-preserved c =
+    let so_far = c.loop-i.invariant in
+    let done = c.in_default-play_event.ensures in
+    record {
+      same_room = done.same_room ∙ so_far.same_room;
+      others = so_far.others ∙ event_played _ _ _ _ _ _ _ _ _ _ _ c.loop-i-test.true (sym c.in-Ok.ensures) done.played;
+    }
 
 pub returns-in-Err : goal.returns-in-Err
 unfolding line_answer
-returns-in-Err c = c.loop-i.invariant.3 ∙ place_wrong _ _ _ _ _ _ _ _ _ (sym c.in-Err.ensures)
+returns-in-Err c =
+    let so_far = c.loop-i.invariant in
+    let done = c.in-Err.ensures in
+    let line = rw c.into.ensures at c.put_refusal.ensures in
+    record {
+      same_room = line.same_room ∙ done.same_room ∙ so_far.same_room;
+      played = so_far.others
+          ∙ event_refused _ _ _ _ _ _ _ _ _ _ _ c.loop-i-test.true (sym c.in-Ok.ensures) _ _ done.played line.inked;
+    }
+
+pub returns-in_default : goal.returns-in_default
+unfolding line_answer
+returns-in_default c =
+    let so_far = c.loop-i.invariant in
+    record { same_room = so_far.same_room; played = so_far.others ∙ place_wrong _ _ _ _ _ _ _ _ _ (sym c.in_default.ensures) }
 
 pub returns : goal.returns
-returns c = c.loop-i.invariant.3 ∙ place_none _ _ _ _ _ _ _ (omega arith)
+returns c =
+    let so_far = c.loop-i.invariant in
+    record { same_room = so_far.same_room; played = so_far.others ∙ place_none _ _ _ _ _ _ _ (omega arith) }

@@ -4,8 +4,8 @@ use Rattle.logs.specs.Laws.{log_within}
 use Rattle.programs.proofs.print_log.Goals as goal
 
 pub slice_bounds-write_output-end : goal.slice_bounds-write_output-end
-slice_bounds-write_output-end c = log_within _ _ _ _ _ _ _ c.in-Bytes-write_log.ensures
+slice_bounds-write_output-end c = log_within _ _ _ _ _ _ _ c.in-Ok.ensures
 
-pub slice_bounds-write_output-end-in-Bytes-write_log : goal.slice_bounds-write_output-end-in-Bytes-write_log
-slice_bounds-write_output-end-in-Bytes-write_log c =
-    sym (length-take-le _ _ (log_within _ _ _ _ _ _ _ c.in-Bytes-write_log.ensures))
+pub slice_bounds-write_output-end-in-Ok : goal.slice_bounds-write_output-end-in-Ok
+slice_bounds-write_output-end-in-Ok c =
+    sym (length-take-le _ _ (log_within _ _ _ _ _ _ _ c.in-Ok.ensures))
