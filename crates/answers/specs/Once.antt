@@ -8,7 +8,7 @@ use Rattle.answers.specs.declared.Why.{Why}
 use Rattle.answers.specs.declared.Why.TheVariants as why
 use Rattle.answers.specs.declared.Refusal.{Refusal}
 use Rattle.answers.specs.declared.Refusal.TheVariants as refusal
-use Rattle.answers.specs.Said.{number, answer_says, step_says, why_says, run_says}
+use Rattle.answers.specs.Said.{Said, number, answer_says, step_says, why_says, run_says}
 
 -- of a call that only reads, whatever it answers
 pub once_read : {A S : Type 0} (say : A → S) → ((a b : A) → say a ≡ say b → a ≡ b) → {x : S} {a b : A} → x ≡ say a → x ≡ say b → a ≡ b
@@ -65,6 +65,10 @@ one_answer (Ok x) (Ok y) e = cc
 one_answer (Ok x) (Err r) e = cc
 one_answer (Err r) (Ok y) e = cc
 one_answer (Err r) (Err q) e = let n : number r ≡ number q = cc in ap (λ z. Err z) (one_refusal r q n)
+
+-- of `quiet` and `waiting`, which only read
+pub one_read : {A : Type 0} {x : Said A} {a b : Result A Refusal} → x ≡ answer_says a → x ≡ answer_says b → a ≡ b
+one_read p q = once_read answer_says one_answer p q
 
 pub one_step : (a b : Result (Option End) Refusal) → step_says a ≡ step_says b → a ≡ b
 one_step (Ok None) (Ok None) e = refl

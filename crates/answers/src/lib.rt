@@ -46,7 +46,8 @@ impl From<Refusal> for u16 {
     }
 }
 
-// An operation that ended: op 1 or 2, its node, 0 for empty, and its steps.
+// An operation that ended: op 1 or 2, its node, 0 for empty, and its steps. Kept numbers: they are the frame's own words, and go as they are
+// into the log and to C; an enum and an Option between would be made in one place and unmade in three.
 #[derive(Clone, Copy)]
 pub struct End {
     pub op: u16,

@@ -129,6 +129,14 @@ module _ {s : Sizes} {t : List ℕ} {q n c i : ℕ} {room all : List ℕ} (w : W
         more = record { fits = p.1; is = p.2 ∙ rw m at w.is };
       }
 
+  -- as many links were followed as the table can have: the chain has ended
+  pub writing_done : n ≡ 0 → room ≡ all
+  writing_done z = by (eqb c 0) refl
+    where
+      by : (b : Bool) → eqb c 0 ≡ b → room ≡ all
+      by true e = writing_ended (eqb-true c 0 e)
+      by false e = let l = left_some (eqb-false c 0 e) (eqb n 0) refl in absurd (omega arith)
+
 -- ---- the listing, by its head and its count
 
 pub no_head : {head h : ℕ} → head ≡ h → head ≡ 0 → (s : Sizes) (t : List ℕ) (q : ℕ) → nodes_from s t q h ≡ None

@@ -25,6 +25,7 @@ pub fn quiet(t: &[u16], q: Queue) -> Result<bool, Refusal>
     }
 }
 
+// A node is compared with a queue by number: the sentinel of queue q is node q.
 fn is_sentinel(q: Queue, c: Node) -> bool
     ensures { result ≡ eqb c.0 q.0 }
 {
@@ -39,24 +40,24 @@ fn weight_of(q: Queue, c: Node) -> u16
     u16::from(!is_sentinel(q, c))
 }
 
-// How many nodes the chain has but the sentinel, or none where it is one of refusal 10. It walks from link to link, and left counts the
-// links that the table can have: kept a while, since a for over these would ask in two places whether the chain ends.
+// How many nodes the chain has but the sentinel, or none where it is one of refusal 10: a link past the table's nodes, or more links.
 fn count_chain(t: &[u16], s: Sizes, q: Queue, head: Node) -> Option<u16>
     requires { Fits s t.now }
     ensures { result ≡ counted 0 (chain s t.now q.0 s.nodes head.0) }
 {
     let mut c = head;
-    let mut left = s.nodes;
     let mut n = 0;
-    while c.0 != 0 {
-        if left == 0 || s.nodes < usize::from(c.0) {
+    for _ in 0..s.nodes {
+        if c.0 == 0 {
+            return Some(n);
+        }
+        if s.nodes < usize::from(c.0) {
             return None;
         }
         n += weight_of(q, c);
         c = Node(words::load(t, s, Word::Next(c)));
-        left -= 1;
     }
-    Some(n)
+    if c.0 == 0 { Some(n) } else { None }
 }
 
 // Puts node c at place i, unless it is the sentinel, and answers the next place.
@@ -73,19 +74,20 @@ fn put_node(room: &mut [u16], i: usize, q: Queue, c: Node) -> usize
     }
 }
 
-// Writes the nodes of a chain that ends; left only shows that the walk does.
+// Writes the nodes of a chain that ends.
 fn write_chain(t: &[u16], s: Sizes, q: Queue, head: Node, room: &mut [u16])
     requires fits { Fits s t.now }
     requires room_for { RoomFor (chain s t.now q.0 s.nodes head.0) 0 room.old }
     ensures { room.new ≡ written (chain s t.now q.0 s.nodes head.0) 0 room.old }
 {
     let mut c = head;
-    let mut left = s.nodes;
     let mut at = 0;
-    while c.0 != 0 {
+    for _ in 0..s.nodes {
+        if c.0 == 0 {
+            return;
+        }
         at = put_node(room, at, q, c);
         c = Node(words::load(t, s, Word::Next(c)));
-        left -= 1;
     }
 }
 

@@ -10,6 +10,9 @@ use answers::Refusal;
 use table::Point;
 use words::{Frame, Level, Node, Queue, Sizes, Word};
 
+// An enqueue and a dequeue each have their three functions below: kept apart, since they share the order of the calls alone, and one
+// function that takes the others as closures would be longer than the two.
+
 // The frame of an operation that begins.
 fn begin_frame(op: u16, point: u16, q: Queue, n: Node) -> Frame
     ensures { result ≡ begun_at op point q n }

@@ -4,7 +4,6 @@ use Prim.Native.Nat.{ℕ, ◌+◌, ◌≤◌, ◌<◌}
 use mathlib.Core.Path.{◌≡◌, refl, sym, ap, ◌∙◌}
 use mathlib.Core.Logic.{◌≢◌}
 use mathlib.Core.Bool.{Bool, true, false, cond, not, ◌&&◌}
-use mathlib.Core.Option as option
 use mathlib.Core.List.{List, [], ◌∷◌, ◌++◌}
 use native.Mathlib.Omega.{arith}
 use lib.Dec.{ltb, eqb}
@@ -181,7 +180,7 @@ module _ (s : Sizes) (t : List ℕ) (fronts : ℕ → List ℕ) (m : measured t 
       (sound.registered j e)
 
   -- the listing call
-  nodes_are : nodes_of s t q ≡ option.some (still_in s t q)
+  nodes_are : nodes_of s t q ≡ Some (still_in s t q)
   unfolding nodes_from
   nodes_are =
       let held = c.once q.0 ∙ own_sentinel s.queues (memory s t).uses q.0 quiet.queue_known in

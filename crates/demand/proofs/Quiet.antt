@@ -3,7 +3,7 @@ use Prim.Native.Nat.{ℕ, zero, suc, ◌+◌, ◌≤◌, ◌<◌}
 use mathlib.Core.Path.{◌≡◌, sym, ap, ◌∙◌}
 use mathlib.Core.Logic.{◌≢◌}
 use mathlib.Core.Bool.{Bool, true, false, cond}
-use mathlib.Core.Option.{some}
+use Rattle.std.specs.Prelude.{Some}
 use mathlib.Core.List.{List, [], ◌∷◌, ◌++◌, nil≢cons, head-eq_of_cons-eq, tail-eq_of_cons-eq}
 use native.Mathlib.Omega.{arith}
 use lib.Dec.{eqb}
@@ -112,7 +112,7 @@ module _ (s : Sizes) (t : List ℕ) (q : ℕ) where
   next_is x a b = sym (look_rd s t (Next (node x)) (has_is s (Next (node x)) (a, b)))
 
   -- what the listing walks
-  pub chain_is : (n c : ℕ) (xs : List ℕ) → Seg (memory s t).next c xs 0 → length xs ≤ n → Known xs → chain s t q n c ≡ some (without q xs)
+  pub chain_is : (n c : ℕ) (xs : List ℕ) → Seg (memory s t).next c xs 0 → length xs ≤ n → Known xs → chain s t q n c ≡ Some (without q xs)
   unfolding chain before without
   chain_is zero c xs (stop e) h k = rw (eq-eqb c 0 e)
   chain_is (suc n) c xs (stop e) h k = rw (eq-eqb c 0 e)

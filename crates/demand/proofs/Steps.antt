@@ -1,6 +1,6 @@
 -- One step of the table, for all queues at once: it is never refused but with 9, where nothing runs; what holds of every queue holds
 -- afterwards; what it returned is the first of what was frozen; and a node leaves its queue exactly where it is returned.
-use Rattle.std.specs.Prelude.{Some}
+use Rattle.std.specs.Prelude.{Some, Option, None}
 use Prim.Native.Nat.{ℕ, zero, suc, ◌+◌, ◌≤◌, ◌<◌}
 use mathlib.Core.Path.{◌≡◌, refl, sym, ap, ◌∙◌}
 use mathlib.Core.Logic.{◌≢◌}
@@ -24,8 +24,6 @@ use Rattle.table.specs.Points.{Point, D7, point_of}
 use Rattle.table.specs.Frames.{counted}
 use Rattle.table.specs.Table.{Row}
 use Rattle.answers.specs.Said.{refused, says, Step}
-use Rattle.steps.specs.declared.Served.{Served}
-use Rattle.steps.specs.declared.Served.TheVariants.{At, Nobody}
 use Rattle.steps.specs.Step.{serving, strays, sound, end_of, step_frame, step_served, step_sized}
 use Rattle.steps.proofs.Singly.{stepped_kept}
 use Rattle.lists.specs.Count.{Same, same, apart, same?, cnt, counts}
@@ -45,10 +43,10 @@ use Rattle.demand.specs.History.{returned_at_end, returned_by_step}
 
 -- ---- the level that a step serves
 
-data Serves (s : Sizes) (t : List ℕ) (n : ℕ) : Served → Type 0 where
-  nobody : ((j : ℕ) → j < n → (frame_of s t (level j)).op ≡ 0) → Serves s t n Nobody
+data Serves (s : Sizes) (t : List ℕ) (n : ℕ) : Option Level → Type 0 where
+  nobody : ((j : ℕ) → j < n → (frame_of s t (level j)).op ≡ 0) → Serves s t n None
   serves : (l : ℕ) → l < n → (frame_of s t (level l)).op ≢ 0 → ((j : ℕ) → l < j → j < n → (frame_of s t (level j)).op ≡ 0)
-      → Serves s t n (At (level l))
+      → Serves s t n (Some (level l))
 
 served : (s : Sizes) (t : List ℕ) (n : ℕ) → Serves s t n (serving s t n)
 unfolding serving
@@ -65,17 +63,17 @@ served s t (suc n) = by (eqb (op n) 0) (same? (op n) 0) (served s t n)
         pick true (same z) = rw z e
         pick false (apart z) = k (omega arith)
 
-    lift : (x : Served) → op n ≡ 0 → Serves s t n x → Serves s t (suc n) x
+    lift : (x : Option Level) → op n ≡ 0 → Serves s t n x → Serves s t (suc n) x
     lift x e (nobody h) = nobody (λ j k. up j e k (h j))
     lift x e (serves l low run h) = serves l (omega arith) run (λ j a b. up j e b (h j a))
 
-    by : (b : Bool) → Same (op n) 0 b → Serves s t n (serving s t n) → Serves s t (suc n) (cond b (serving s t n) (At (level n)))
+    by : (b : Bool) → Same (op n) 0 b → Serves s t n (serving s t n) → Serves s t (suc n) (cond b (serving s t n) (Some (level n)))
     by true (same e) k = lift (serving s t n) e k
     by false (apart e) k = serves n (omega arith) e (λ j a b. absurd (omega arith))
 
 -- the highest level that runs is served
 pub serving_is : (s : Sizes) (t : List ℕ) (l n : ℕ) → l < n → (frame_of s t (level l)).op ≢ 0
-    → ((j : ℕ) → l < j → j < n → (frame_of s t (level j)).op ≡ 0) → serving s t n ≡ At (level l)
+    → ((j : ℕ) → l < j → j < n → (frame_of s t (level j)).op ≡ 0) → serving s t n ≡ Some (level l)
 unfolding serving
 serving_is s t l zero low run top = absurd (omega arith)
 serving_is s t l (suc n) low run top = by (eqb (op n) 0) (same? (op n) 0) (eqb l n) (same? l n) (serving_is s t l n)
@@ -84,19 +82,19 @@ serving_is s t l (suc n) low run top = by (eqb (op n) 0) (same? (op n) 0) (eqb l
     op j = (frame_of s t (level j)).op
 
     by : (b : Bool) → Same (op n) 0 b → (c : Bool) → Same l n c
-        → (l < n → op l ≢ 0 → ((j : ℕ) → l < j → j < n → op j ≡ 0) → serving s t n ≡ At (level l))
-        → cond b (serving s t n) (At (level n)) ≡ At (level l)
+        → (l < n → op l ≢ 0 → ((j : ℕ) → l < j → j < n → op j ≡ 0) → serving s t n ≡ Some (level l))
+        → cond b (serving s t n) (Some (level n)) ≡ Some (level l)
     by true (same e) true (same z) ih = absurd (run (rw z e))
     by false (apart e) true (same z) ih = rw z
     by true (same e) false (apart z) ih = ih (omega arith) run (λ j a b. top j a (omega arith))
     by false (apart e) false (apart z) ih = absurd (e (top n (omega arith) (omega arith)))
 
 -- what it means that a level is served
-pub serves_at : (s : Sizes) (t : List ℕ) (n : ℕ) (l : Level) → serving s t n ≡ At l
+pub serves_at : (s : Sizes) (t : List ℕ) (n : ℕ) (l : Level) → serving s t n ≡ Some l
     → (l.0 < n) × ((frame_of s t l).op ≢ 0) × ((j : ℕ) → l.0 < j → j < n → (frame_of s t (level j)).op ≡ 0)
 serves_at s t n l e = by (serving s t n) (served s t n) e
   where
-    by : (v : Served) → Serves s t n v → v ≡ At l
+    by : (v : Option Level) → Serves s t n v → v ≡ Some l
         → (l.0 < n) × ((frame_of s t l).op ≢ 0) × ((j : ℕ) → l.0 < j → j < n → (frame_of s t (level j)).op ≡ 0)
     by v (nobody h) e = let z : ◌≡◌ {A = ℕ} 0 1 = cc in absurd (omega arith)
     by v (serves k low run top) e = let z : level k ≡ l = cc in rw (← z) (low, run, top)
@@ -317,6 +315,6 @@ module _ (s : Sizes) (t : List ℕ) (fronts : ℕ → List ℕ) (m : measured t 
   unfolding step_sized step_served
   step_taken = by (serving s t s.levels) refl (served s t s.levels)
     where
-      by : (v : Served) → serving s t s.levels ≡ v → Serves s t s.levels v → Outcome s t fronts
+      by : (v : Option Level) → serving s t s.levels ≡ v → Serves s t s.levels v → Outcome s t fronts
       by v e (nobody h) = idle (rw e) (λ j. frame_idle s t j (h j))
       by v e (serves l low run top) = took l _ (step_at l low run top)

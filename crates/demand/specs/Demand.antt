@@ -1,6 +1,6 @@
 -- Demand 3: nothing is lost, nothing is doubled, and the order is kept from one quiet moment to the next, under any schedule of nested interrupts.
 -- A history is any sequence of accepted calls from fresh, for any sizes within the limits and any lent words that hold the table.
-use Rattle.std.specs.Prelude.{ℕ, ◌+◌, ◌≤◌, ◌<◌, ◌≡◌, ◌≢◌, true, List, [], ◌∷◌, ◌++◌, eqb, length, drop}
+use Rattle.std.specs.Prelude.{ℕ, ◌+◌, ◌≤◌, ◌<◌, ◌≡◌, ◌≢◌, true, List, [], ◌∷◌, ◌++◌, eqb, length, drop, Some}
 use Rattle.words.specs.declared.Level.{Level}
 use Rattle.words.specs.declared.Queue.{Queue}
 use Rattle.words.specs.declared.Node.{Node}
@@ -13,7 +13,6 @@ use Rattle.fresh.specs.Fresh.{fresh_of}
 use Rattle.begins.specs.Begin.{dequeue_of}
 use Rattle.steps.specs.Step.{serving, step_of}
 use Rattle.steps.specs.Run.{run_of}
-use Rattle.steps.specs.declared.Served.TheVariants.{At}
 use Rattle.asks.specs.Quiet.{quiet_of}
 use Rattle.asks.specs.Listing.{listing_of}
 use Rattle.table.specs.Points.{D3, number_of}
@@ -137,4 +136,4 @@ module _ (s : Sizes) (es : List Event) (t : List ℕ) where
   -- D3 never ends a dequeue: only D2 says empty.
   abbrev pub D3GoesOn : Type 0
   D3GoesOn =
-      (l : Level) → Reached s es t → serving s t s.levels ≡ At l → (frame_of s t l).point ≡ number_of D3 → (step_of t).0 ≡ says going_on
+      (l : Level) → Reached s es t → serving s t s.levels ≡ Some l → (frame_of s t l).point ≡ number_of D3 → (step_of t).0 ≡ says going_on

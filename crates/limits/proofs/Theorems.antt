@@ -1,4 +1,5 @@
 -- The theorems: over the moves of a history from a fresh table.
+use Rattle.std.specs.Prelude.{Some}
 use Prim.Native.Nat.{ℕ, ◌+◌, ◌*◌, ◌≤◌, ◌<◌}
 use mathlib.Core.Path.{◌≡◌, refl, sym, ap, ◌∙◌, subst}
 use mathlib.Core.Logic.{◌≢◌}
@@ -16,7 +17,6 @@ use Rattle.answers.specs.Said.{says, going_on, ended, Why, after, an_end, spent,
 use Rattle.answers.specs.Most.{enqueue_most, operation_most}
 use Rattle.table.specs.Points.{E1, D1}
 use Rattle.begins.specs.Begin.{begun as frame_begun}
-use Rattle.steps.specs.declared.Served.TheVariants.{At}
 use Rattle.steps.specs.Step.{serving}
 use Rattle.steps.specs.Run.{run_from, run_of}
 use Rattle.state.specs.Mem.{put, put_same, put_other}
@@ -211,13 +211,13 @@ module _ (s : Sizes) (cap : Capped s) (op : ℕ) (l : Level) (q : Queue) (u : Li
   serves : (up own : ℕ) → Runs s.levels op l.0 q (frames s v) up own → Serves s v l up
   serves up own r = (mine, none)
     where
-      mine : up ≡ 0 → serving s v s.levels ≡ At l
+      mine : up ≡ 0 → serving s v s.levels ≡ Some l
       mine z =
           let f = frame_is s v l.0 b.low in
           serving_is s v l.0 s.levels b.low (λ e. b.some (sym r.op_is ∙ rw f e))
           (λ j a c. rw (← frame_is s v j c) (idle_above s.levels l.0 (frames s v) (r.above_are ∙ z) j a c))
 
-      none : serving s v s.levels ≡ At l → up ≡ 0
+      none : serving s v s.levels ≡ Some l → up ≡ 0
       none e =
           let at = serves_at s v s.levels l e in
           sym r.above_are ∙ none_above s.levels l.0 (frames s v) (λ j a. frame_idle s v j (λ c. at.2 j a c))

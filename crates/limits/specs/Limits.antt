@@ -1,6 +1,6 @@
 -- How long an operation can take, in steps of its own, whatever interrupts it: enqueues and dequeues on whichever queues, above and below,
 -- at any moment of any history of accepted calls from a fresh table. The steps word is that count.
-use Rattle.std.specs.Prelude.{ℕ, ◌+◌, ◌*◌, ◌≤◌, ◌<◌, ◌≡◌, ◌≢◌, List, [], ◌∷◌}
+use Rattle.std.specs.Prelude.{ℕ, ◌+◌, ◌*◌, ◌≤◌, ◌<◌, ◌≡◌, ◌≢◌, List, [], ◌∷◌, Some}
 use Rattle.words.specs.declared.Level.{Level}
 use Rattle.words.specs.declared.Queue.{Queue}
 use Rattle.words.specs.declared.Node.{Node}
@@ -11,7 +11,6 @@ use Rattle.answers.specs.Said.{says, after, an_end}
 use Rattle.answers.specs.Most.{enqueue_most, operation_most}
 use Rattle.table.specs.Frames.{counted}
 use Rattle.begins.specs.Begin.{enqueue_of, dequeue_of}
-use Rattle.steps.specs.declared.Served.TheVariants.{At}
 use Rattle.steps.specs.Step.{serving}
 use Rattle.steps.specs.Run.{run_of}
 use Rattle.costs.specs.Bounds.{AtMost}
@@ -67,7 +66,7 @@ module _ (s : Sizes) (es : List Event) (t : List ℕ) where
 
 -- the next step of table v serves level l exactly where none of so many runs above it
 abbrev pub Serves : Sizes → List ℕ → Level → ℕ → Type 0
-Serves s v l above = (above ≡ 0 → serving s v s.levels ≡ At l) × (serving s v s.levels ≡ At l → above ≡ 0)
+Serves s v l above = (above ≡ 0 → serving s v s.levels ≡ Some l) × (serving s v s.levels ≡ Some l → above ≡ 0)
 
 -- An operation op that was begun at level l on queue q, in table v after the calls that came since: while it runs its frame is at level l
 -- and the steps word is the number of its own steps, fewer than the bound; the end that is answered is its own, with that number, at most

@@ -47,6 +47,7 @@ impl Events for Operations {
 }
 
 // Writes the words of an operation at a place, and answers the place after them.
+// kept: its kind as the number 1 or 2, as the calls for C take operations as such words (`words_of`).
 #[tactic(auto, using(crate::specs::Laws::put_four), unfolding(crate::specs::Tasks::words_of))]
 fn put_operation(ops: &mut [u16; WORDS], at: usize, e: Event) -> usize
     requires { at + 4 ≤ 24 }

@@ -29,6 +29,7 @@ impl From<BadLine> for WriteError {
 }
 
 // The event at a place: 1 level queue node, 2 level queue, or 3 count; with the place after its words.
+// kept: an event's kind as a number among the lent words, whose meaning may not change (`event_words`).
 #[tactic(auto, using(crate::specs::Laws::kinds), unfolding(crate::specs::Writing::event_in, crate::specs::Writing::is_kind))]
 fn event_in(words: &[u16], at: usize) -> Option<(Event, usize)>
     requires { at ≤ length words.now }
