@@ -16,4 +16,4 @@ pub returns : goal.returns
 returns c =
     let told = c.in_ok-search.ensures in
     let listed = c.list_texts.ensures in
-    try_on _ _ _ _ told.2 _ _ _ (rw (told.0, told.1) at listed)
+    try_on _ _ _ _ told.2 _ _ _ (rw (told.0, told.1, c.from.ensures) at listed)
