@@ -427,7 +427,12 @@ fn put_lines(pen: &mut Pen, count: u64, tallies: &[u64], queues: u16)
 // How many schedules there are, then a line for each outcome in the order of their first schedules, and one for the others: how many bytes
 // they have, or that the room is too small.
 #[tactic(auto, unfolding(crate::specs::Lines::put_lines))]
-pub fn write_outcomes(count: u64, tallies: &[u64], queues: u16, room: &mut [u8]) -> Result<usize, Refusal>
+pub fn write_outcomes(
+    count: u64,
+    tallies: &[u64],
+    queues: u16,
+    room: &mut [u8],
+) -> Result<usize, Refusal>
     requires { 5122 ≤ length tallies.now }
     ensures { put_lines room.old (counted_text count tallies.now queues) ≡ (result, room.new) }
 {

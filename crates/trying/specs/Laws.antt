@@ -1,17 +1,17 @@
 -- What the proofs cite.
-use Rattle.std.specs.Prelude.{ℕ, ◌+◌, ◌*◌, ◌/◌, ◌≤◌, ◌<◌, ◌≡◌, refl, Bool, true, false, Option, Some, None, cond, List, [], ◌∷◌, length, take, drop, set, get_or, replicate, ltb, eqb}
+use Rattle.std.specs.Prelude.{ℕ, ◌+◌, ◌*◌, ◌/◌, ◌≤◌, ◌<◌, ◌≡◌, refl, Bool, true, false, Option, Some, None, Result, Ok, Err, cond, List, [], ◌∷◌, length, take, drop, set, get_or, replicate, ltb, eqb}
 use Rattle.std.proofs.Common.{sym, ◌∙◌, arith, add-one, length-set, drop_of_length-le, drop-cons, ltb-true, ltb-false, eq-eqb, ne_eqb}
 use Rattle.std.proofs.Math.Path.{ap}
 use Rattle.std.proofs.lemmas.List.Edits.{sets}
 use Rattle.std.proofs.Math.Seq.{length-sets}
+use Rattle.std.specs.Result.{result_ok}
 use Rattle.answers.specs.Said.{Said, refused, says}
 use Rattle.text.specs.declared.Opening.{Opening}
 use Rattle.text.specs.declared.Event.{Event}
 use Rattle.text.specs.Answer as answer
 use Rattle.loglines.specs.Ink.{Page, ink_one, ink}
 use Rattle.loglines.specs.Lines.{text_line, refusal_line}
-use Rattle.outcomes.specs.declared.Written.{Written}
-use Rattle.outcomes.specs.declared.Written.TheVariants.{Bytes, Refused}
+use Rattle.answers.specs.declared.Refusal.{Refusal}
 use Rattle.outcomes.specs.Lines.{written_of, put_lines, counted_text}
 use Rattle.tasks.specs.Tasks as task
 use Rattle.tasks.specs.Tasks.{task_reading, task_of, all_words}
@@ -61,9 +61,13 @@ number_all n i bs h = rw (drop_of_length-le bs {i = i} h)
 
 -- ---- what is told
 
-abbrev pub written_says : Written → Said (ℕ × Bool)
-written_says (Bytes n) = says (n, false)
-written_says (Refused r) = refused 12
+abbrev pub written_says : Result ℕ Refusal → Said (ℕ × Bool)
+written_says (Ok n) = says (n, false)
+written_says (Err r) = refused 12
+
+pub ok_says : (w : Result ℕ Refusal) → pen_says (result_ok w) ≡ written_says w
+ok_says (Ok n) = refl
+ok_says (Err r) = refl
 
 pub laid_is : {pen : Option ℕ} {after : List ℕ} {said : Said (ℕ × Bool)} (line room : List ℕ) → ink (Some 0, room) line ≡ (pen, after)
     → said ≡ pen_says pen → laid line room ≡ (said, after)
@@ -129,20 +133,20 @@ refused_told_holds told text ops after room number x e f = rw (task_wrong text o
 
 -- ---- the outcomes
 
-lines_laid : (room text after : List ℕ) (w : Written) → put_lines room text ≡ (w, after) → laid text room ≡ (written_says w, after)
+lines_laid : (room text after : List ℕ) (w : Result ℕ Refusal) → put_lines room text ≡ (w, after) → laid text room ≡ (written_says w, after)
 unfolding put_lines laid
 lines_laid room text after w e = by (ink (Some 0, room) text) e
   where
-    by : (x : Page) → ◌≡◌ {A = Written × List ℕ} (written_of x.0, x.1) (w, after)
+    by : (x : Page) → ◌≡◌ {A = Result ℕ Refusal × List ℕ} (written_of x.0, x.1) (w, after)
         → ◌≡◌ {A = Told} (pen_says x.0, x.1) (written_says w, after)
-    by (Some n, r) f = ap (λ (u : Written × List ℕ). (written_says u.0, u.1)) f
-    by (None, r) f = ap (λ (u : Written × List ℕ). (written_says u.0, u.1)) f
+    by (Some n, r) f = ap (λ (u : Result ℕ Refusal × List ℕ). (written_says u.0, u.1)) f
+    by (None, r) f = ap (λ (u : Result ℕ Refusal × List ℕ). (written_says u.0, u.1)) f
 
 module _ (o : Opening) (ws ts room after : List ℕ) where
   abbrev tally : Said ℕ × List ℕ
   tally = tally_of o.levels o.queues o.nodes ws (replicate 5122 0)
 
-  pub count_lines : (n : ℕ) (w : Written) → tally ≡ (says n, ts) → put_lines room (counted_text n ts o.queues) ≡ (w, after)
+  pub count_lines : (n : ℕ) (w : Result ℕ Refusal) → tally ≡ (says n, ts) → put_lines room (counted_text n ts o.queues) ≡ (w, after)
       → count_told room o ws ≡ (written_says w, after)
   unfolding number_told
   count_lines n w e f = ap (number_told o.queues room) e ∙ lines_laid room (counted_text n ts o.queues) after w f

@@ -1,6 +1,7 @@
 #![tactic(auto)]
 // What the program tries does: it reads a task, and prints its schedules, or how many there are and their outcomes.
 ghost use Rattle.std.specs.Prelude.{◌≡◌, Some};
+ghost use Rattle.answers.specs.Said.{number};
 ghost use Rattle.loglines.specs.Ink.{ink};
 ghost use Rattle.loglines.specs.Lines.{text_line, refusal_line};
 ghost use Rattle.trying.specs.Trying.{
@@ -14,8 +15,8 @@ ghost use Rattle.trying.specs.Trying.{
 };
 ghost use Rattle.trying.specs.Bounds.{digit_on, bound_in};
 
+use answers::Refusal;
 use loglines::Pen;
-use outcomes::Written;
 use std::env::{Env, FillError};
 use tasks::TaskError;
 use text::Opening;
@@ -111,22 +112,22 @@ fn tell_wrong(line: usize, room: &mut [u8]) -> Result<Answer, NoRoom>
     whole(write_wrong(line, room))
 }
 
-fn write_refused(number: u16, room: &mut [u8]) -> Option<usize>
-    ensures { ink (Some 0, room.old) (refusal_line 0 number) ≡ (result, room.new) }
+fn write_refused(why: Refusal, room: &mut [u8]) -> Option<usize>
+    ensures { ink (Some 0, room.old) (refusal_line 0 (number why)) ≡ (result, room.new) }
 {
     let mut pen = Pen { room, at: Some(0) };
-    pen.put_refusal(0, number);
+    pen.put_refusal(0, why.into());
     pen.at
 }
 
 // `R 0 number`, but for the room that is too small
-fn tell_refused(number: u16, room: &mut [u8]) -> Result<Answer, NoRoom>
-    ensures { refused_told number room.old ≡ (answer_says result, room.new) }
+fn tell_refused(why: Refusal, room: &mut [u8]) -> Result<Answer, NoRoom>
+    ensures { refused_told (number why) room.old ≡ (answer_says result, room.new) }
 {
-    if number == 12 {
-        return Err(NoRoom);
+    match why {
+        Refusal::Room => Err(NoRoom),
+        _ => whole(write_refused(why, room)),
     }
-    whole(write_refused(number, room))
 }
 
 fn list_schedules(o: Opening, ops: &[u16], bound: u32, room: &mut [u8]) -> Result<Answer, NoRoom>
@@ -137,7 +138,7 @@ fn list_schedules(o: Opening, ops: &[u16], bound: u32, room: &mut [u8]) -> Resul
             bytes: tried.bytes,
             more: tried.more,
         }),
-        Err(number) => tell_refused(number, room),
+        Err(why) => tell_refused(why, room),
     }
 }
 
@@ -146,11 +147,8 @@ fn count_schedules(o: Opening, ops: &[u16], room: &mut [u8]) -> Result<Answer, N
 {
     let mut tallies = [0u64; outcomes::TALLIES];
     match tries::tally_schedules(o.levels, o.queues, o.nodes, ops, &mut tallies) {
-        Ok(n) => match outcomes::write_outcomes(n, &tallies, o.queues, room) {
-            Written::Bytes(bytes) => Ok(Answer { bytes, more: false }),
-            Written::Refused(_) => Err(NoRoom),
-        },
-        Err(number) => tell_refused(number, room),
+        Ok(n) => whole(outcomes::write_outcomes(n, &tallies, o.queues, room).ok()),
+        Err(why) => tell_refused(why, room),
     }
 }
 
@@ -170,7 +168,7 @@ pub fn write_answer(text: &[u8], asked: Asked, room: &mut [u8]) -> Result<Answer
             }
         }
         Err(TaskError::Line(bad)) => tell_wrong(bad.0, room),
-        Err(TaskError::TooMany) => tell_refused(14, room),
+        Err(TaskError::TooMany) => tell_refused(Refusal::Many, room),
     }
 }
 
