@@ -6,8 +6,6 @@ use Rattle.text.specs.declared.Opening.{Opening}
 use Rattle.text.specs.declared.Event.{Event}
 use Rattle.text.specs.declared.Event.TheVariants.{Steps}
 use Rattle.text.specs.Text.{event_text, events_text, opening_text, text_of}
-use Rattle.heads.specs.Put.{Putting}
-use Rattle.heads.specs.Laws.{putting_starts}
 use Rattle.lines.specs.Laws.{steps_top, event_top, opening_top}
 use Rattle.ways.specs.declared.Op.{Op}
 use Rattle.ways.specs.Schedules.{op_in, ops_in}
@@ -120,20 +118,6 @@ at_end ws cs j k p h = let e : j ≡ k = omega arith in at_last ws cs j k h ∙ 
 pub text_at_end : (ws cs : List ℕ) (j k : ℕ) → j ≤ k → k ≤ j
     → events_text (events_at ws cs j (k - j)) ≡ events_text (step_events (get_or cs k 0)) ++ []
 text_at_end ws cs j k p h = ap events_text (at_end ws cs j k p h) ∙ sym (append-nil (events_text (step_events (get_or cs k 0))))
-
-at_start : (ws cs : List ℕ) (k : ℕ) → events_at ws cs 0 (k - 0) ≡ events_at ws cs 0 k
-at_start ws cs k = let e : k - 0 ≡ k = omega arith in ap (events_at ws cs 0) e
-
-pub events_start : (ws cs : List ℕ) (k : ℕ) → 0 + length (events_at ws cs 0 (k - 0)) ≡ length (events_at ws cs 0 k)
-events_start ws cs k = omega (arith, ap length (at_start ws cs k))
-
-pub bytes_start : (ws cs : List ℕ) (k : ℕ) → 0 + length (events_text (events_at ws cs 0 (k - 0))) ≡ length (events_text (events_at ws cs 0 k))
-bytes_start ws cs k = omega (arith, ap (λ (es : List Event). length (events_text es)) (at_start ws cs k))
-
-pub putting_first : (place : ℕ) (room ws cs : List ℕ) (k : ℕ)
-    → Putting place room room place (events_text (events_at ws cs 0 k)) (events_text (events_at ws cs 0 (k - 0)))
-putting_first place room ws cs k =
-    rw (at_start ws cs k) (putting_starts place room (events_text (events_at ws cs 0 k)))
 
 pub event_text_holds : (ws : List ℕ) (j : ℕ) (o : Op) (e : Event) → e ≡ op_event o → o ≡ op_in ws j → event_text (op_event (op_in ws j)) ≡ event_text e
 event_text_holds ws j o e h k = ap (λ (p : Op). event_text (op_event p)) (sym k) ∙ ap event_text (sym h)

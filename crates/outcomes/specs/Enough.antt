@@ -1,13 +1,13 @@
 -- Room that is enough: the lines of any tallies fit into 262,144 bytes, and no more bytes are answered than the room has.
 use Prim.Native.Nat.{ℕ, zero, suc, ◌+◌, ◌*◌, ◌/◌, ◌%◌, ◌≤◌, ◌<◌}
-use Rattle.std.specs.Prelude.{◌≡◌, refl, Bool, true, false, Some, None, cond, length, get_or, set, drop, ltb, eqb}
+use Rattle.std.specs.Prelude.{◌≡◌, refl, Some, None, Result, Ok, Err, Bool, true, false, cond, length, get_or, set, drop, ltb, eqb}
 use Rattle.std.proofs.Common.{ap, length-append, length-set, ltb-true, lt-ltb}
 use mathlib.Core.List.{List, [], ◌∷◌, ◌++◌}
 use native.Mathlib.Omega.{arith}
 use Rattle.loglines.specs.Ink.{Page, ink_one, ink}
 use Rattle.loglines.specs.Laws.{ink_all}
-use Rattle.outcomes.specs.declared.Written.{Written}
-use Rattle.outcomes.specs.declared.Written.TheVariants.{Bytes, Refused}
+use Rattle.answers.specs.declared.Refusal.{Refusal}
+use Rattle.answers.specs.declared.Refusal.TheVariants.{Room}
 use Rattle.outcomes.specs.Outcomes.{mark}
 use Rattle.outcomes.specs.Tallies.{known_in}
 use Rattle.outcomes.specs.Lines.{
@@ -147,7 +147,7 @@ lines_fit ts queues =
 -- room that is enough has all lines at its start, and what it had past them
 pub lines_all : (room ts : List ℕ) (queues : ℕ) → enough ≤ length room
     → put_lines room (outcomes_text ts queues)
-    ≡ (Bytes (length (outcomes_text ts queues)), outcomes_text ts queues ++ drop (length (outcomes_text ts queues)) room)
+    ≡ (Ok (length (outcomes_text ts queues)), outcomes_text ts queues ++ drop (length (outcomes_text ts queues)) room)
 unfolding put_lines
 lines_all room ts queues h =
     ap pen_says (ink_all room (outcomes_text ts queues) (omega (arith, lines_fit ts queues)))
@@ -172,15 +172,15 @@ unfolding ink
 ink_within x [] h = h
 ink_within x (b ∷ bs) h = ink_within (ink_one x b) bs (one_within x b h)
 
-pub lines_within : (room text after : List ℕ) (n : ℕ) → put_lines room text ≡ (Bytes n, after) → n ≤ length after
+pub lines_within : (room text after : List ℕ) (n : ℕ) → put_lines room text ≡ (Ok n, after) → n ≤ length after
 unfolding put_lines
 lines_within room text after n e = by (ink (Some 0, room) text) (ink_within (Some 0, room) text (omega arith)) e
   where
-    by : (x : Page) → Within x → pen_says x ≡ (Bytes n, after) → n ≤ length after
+    by : (x : Page) → Within x → pen_says x ≡ (Ok n, after) → n ≤ length after
     by (Some m, r) h e =
-        let f : ◌≡◌ {A = Written} (Bytes m) (Bytes n) = ap (λ q. q.0) e in
+        let f : ◌≡◌ {A = Result ℕ Refusal} (Ok m) (Ok n) = ap (λ q. q.0) e in
         let g : r ≡ after = ap (λ q. q.1) e in
         let k : m ≡ n = cc in
         omega (arith, ap length g)
     by (None, r) h e =
-        let f : ◌≡◌ {A = Written} (Refused 12) (Bytes n) = ap (λ q. q.0) e in let z : ◌≡◌ {A = ℕ} 0 1 = cc in absurd (omega arith)
+        let f : ◌≡◌ {A = Result ℕ Refusal} (Err Room) (Ok n) = ap (λ q. q.0) e in let z : ◌≡◌ {A = ℕ} 0 1 = cc in absurd (omega arith)

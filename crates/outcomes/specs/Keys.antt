@@ -5,8 +5,7 @@ use Rattle.std.proofs.Common.{sym, ◌∙◌, ext_get_or}
 use Rattle.std.proofs.Math.Path.{ap}
 use native.Mathlib.Omega.{arith}
 use Rattle.std.proofs.Math.ListN.{get_or}
-use Rattle.outcomes.specs.declared.Key.{Key}
-use Rattle.outcomes.specs.Tallies.{word_of, key_of}
+use Rattle.outcomes.specs.Tallies.{Key, word_of, key_of}
 use Rattle.outcomes.specs.Lines.{part_of}
 
 -- the numbers have 16 bits
@@ -43,21 +42,15 @@ module _ (xs : List ℕ) (small : Small xs) (i : ℕ) where
 
 -- ---- a key's sixteen
 
-key_word : Key → ℕ → ℕ
-key_word key zero = key.a
-key_word key (suc zero) = key.b
-key_word key (suc (suc zero)) = key.c
-key_word key (suc (suc (suc w))) = key.d
-
-key_word_holds : (xs : List ℕ) (w : ℕ) → w < 4 → key_word (key_of xs) w ≡ word_of xs (4 * w)
-unfolding key_of key_word
+key_word_holds : (xs : List ℕ) (w : ℕ) → w < 4 → get_or (key_of xs) w 0 ≡ word_of xs (4 * w)
+unfolding key_of
 key_word_holds xs zero h = refl
 key_word_holds xs (suc zero) h = refl
 key_word_holds xs (suc (suc zero)) h = refl
 key_word_holds xs (suc (suc (suc zero))) h = refl
 key_word_holds xs (suc (suc (suc (suc w)))) h = absurd (omega arith)
 
-key_tells : (xs : List ℕ) → Small xs → (j : ℕ) → j < 16 → part_of (key_word (key_of xs) (j / 4)) (j % 4) ≡ get_or xs j 0
+key_tells : (xs : List ℕ) → Small xs → (j : ℕ) → j < 16 → part_of (get_or (key_of xs) (j / 4) 0) (j % 4) ≡ get_or xs j 0
 key_tells xs small j h =
     let e : 4 * (j / 4) + j % 4 ≡ j = omega arith in
     ap (λ (w : ℕ). part_of w (j % 4)) (key_word_holds xs (j / 4) (omega arith))
@@ -69,5 +62,5 @@ same_key xs ys small small' l l' e =
     ext_get_or 0 xs ys (l ∙ sym l')
     (λ j h.
     sym (key_tells xs small j (omega arith))
-    ∙ ap (λ (k : Key). part_of (key_word k (j / 4)) (j % 4)) e
+    ∙ ap (λ (k : Key). part_of (get_or k (j / 4) 0) (j % 4)) e
     ∙ key_tells ys small' j (omega arith))

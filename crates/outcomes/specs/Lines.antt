@@ -1,9 +1,9 @@
 -- The outcomes' lines, as bytes: `schedules COUNT`, `COUNT returned A B .. queue 1 X Y .. queue 2 Z ..` and `COUNT other`.
-use Rattle.std.specs.Prelude.{ℕ, zero, suc, ◌+◌, ◌*◌, ◌/◌, ◌%◌, List, [], ◌∷◌, ◌++◌, Option, Some, None, cond, get_or, ltb, eqb}
+use Rattle.std.specs.Prelude.{ℕ, zero, suc, ◌+◌, ◌*◌, ◌/◌, ◌%◌, List, [], ◌∷◌, ◌++◌, Option, Some, None, Result, Ok, Err, cond, get_or, ltb, eqb}
 use Rattle.text.specs.Text.{lf, space}
 use Rattle.loglines.specs.Ink.{Page, ink}
-use Rattle.outcomes.specs.declared.Written.{Written}
-use Rattle.outcomes.specs.declared.Written.TheVariants.{Bytes, Refused}
+use Rattle.answers.specs.declared.Refusal.{Refusal}
+use Rattle.answers.specs.declared.Refusal.TheVariants.{Room}
 use Rattle.outcomes.specs.Outcomes.{mark}
 use Rattle.outcomes.specs.Tallies.{known_in}
 
@@ -88,12 +88,12 @@ counted_text n ts queues = count_line n ++ outcomes_text ts queues
 
 -- ---- written into lent room
 
-abbrev pub written_of : Option ℕ → Written
-written_of (Some n) = Bytes n
-written_of None = Refused 12
+abbrev pub written_of : Option ℕ → Result ℕ Refusal
+written_of (Some n) = Ok n
+written_of None = Err Room
 
-abbrev pub pen_says : Page → Written × List ℕ
+abbrev pub pen_says : Page → Result ℕ Refusal × List ℕ
 pen_says x = (written_of x.0, x.1)
 
-unfoldable pub put_lines : List ℕ → List ℕ → Written × List ℕ
+unfoldable pub put_lines : List ℕ → List ℕ → Result ℕ Refusal × List ℕ
 put_lines room text = pen_says (ink (Some 0, room) text)

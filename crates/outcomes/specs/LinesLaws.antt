@@ -1,16 +1,21 @@
 -- What the proofs of the lines cite.
-use Rattle.std.specs.Prelude.{ℕ, zero, suc, ◌+◌, ◌-◌, ◌/◌, ◌%◌, ◌≤◌, ◌<◌, ◌≡◌, List, [], ◌∷◌, Option, Some, get_or}
+use Rattle.std.specs.Prelude.{ℕ, zero, suc, ◌+◌, ◌-◌, ◌/◌, ◌%◌, ◌≤◌, ◌<◌, ◌≡◌, List, [], ◌∷◌, Option, Some, Result, get_or}
 use Rattle.std.proofs.Math.Path.{refl, ap}
-use Rattle.std.proofs.Common.{sym, ◌∙◌, arith, sub-one}
+use Rattle.std.proofs.Common.{◌*◌, ◌^◌, sym, ◌∙◌, arith, sub-one}
+use Rattle.std.specs.Fmt.{decimal}
+use Rattle.std.proofs.lemmas.Fmt.{AppendsLastDigit, decimal_from_appends, length-decimal-le}
 use borrow.Author.Tests.{lt-ltb, le-ltb, eq-eqb, ne_eqb}
 use Rattle.loglines.specs.declared.Pen.{Pen}
-use Rattle.loglines.specs.Ink.{Page, ink, Writes}
-use Rattle.loglines.specs.Laws.{ink_then, writes_then}
+use Rattle.loglines.specs.Ink.{Page, page, ink, Writes}
+use Rattle.loglines.specs.Laws.{ink_then}
+use Rattle.answers.specs.declared.Refusal.{Refusal}
 use Rattle.outcomes.specs.Outcomes.{mark}
 use Rattle.outcomes.specs.Tallies.{known_in}
 use Rattle.outcomes.specs.Lines.{
+  part_of,
   number_in,
   decimal_in,
+  decimal_of,
   value_text,
   queue_head,
   numbers_text,
@@ -43,6 +48,40 @@ pub decimal_more : {y z : Page} (x : Page) (w n : ℕ) → (w ≡ 0 → ⊥) →
 unfolding decimal_in
 decimal_more x zero n e h i j = absurd (e refl)
 decimal_more x (suc w) n e h i j = rw (le-ltb n 10 h) (ink_then x _ _ (simp sub-one at i) j)
+
+-- a word's four numbers, by a shift
+pub part_shifted : (w j : ℕ) → j < 4 → w / 2 ^ (16 * j) % 65536 ≡ part_of w j
+unfolding part_of
+part_shifted w zero h = omega arith
+part_shifted w (suc zero) h = omega arith
+part_shifted w (suc (suc zero)) h = omega arith
+part_shifted w (suc (suc (suc zero))) h = omega arith
+part_shifted w (suc (suc (suc (suc j)))) h = absurd (omega arith)
+
+decimal_appends : AppendsLastDigit decimal_in
+unfolding decimal_in
+decimal_appends = record {
+  one = λ k n l. let e : n % 10 ≡ n = omega arith in rw (lt-ltb n 10 l, e) refl;
+  more = λ k n l. rw (le-ltb n 10 l) refl;
+}
+
+-- what std writes for a number of 64 bits
+pub decimal_std : (n : ℕ) → n < 2 ^ 64 → decimal_of n ≡ decimal n
+decimal_std n h = decimal_from_appends decimal_in decimal_appends 20 n h (length-decimal-le 20 n (omega arith) (omega arith) h)
+
+-- ---- a pen with some of the bytes left to write
+
+-- the pen q is p after all bytes, once it has written the rest
+pub record Writing (p q : Pen) (bytes rest : List ℕ) : Type 0 where
+  pub same_room : q.room.ghost_name ≡ p.room.ghost_name
+  pub inked : ink (page p) bytes ≡ ink (page q) rest
+
+pub writing_on : {p q r : Pen} {bytes rest next : List ℕ} → Writing p q bytes rest → r.room.ghost_name ≡ q.room.ghost_name
+    → ink (page q) rest ≡ ink (page r) next → Writing p r bytes next
+writing_on w s e = record { same_room = s ∙ w.same_room; inked = w.inked ∙ e }
+
+pub writing_ends : {p q : Pen} {bytes rest : List ℕ} → Writing p q bytes rest → ink (page q) rest ≡ page q → Writes p q bytes
+writing_ends w e = record { same_room = w.same_room; inked = w.inked ∙ e }
 
 -- ---- the numbers of a key
 
@@ -91,12 +130,9 @@ pub lines_start : (x : Page) (ts : List ℕ) (n queues : ℕ)
     → ink x (outcome_lines n ts 0 queues) ≡ ink x (outcome_lines (n - 0) ts 0 queues)
 lines_start x ts n queues = let e : n ≡ n - 0 = omega arith in ap (λ (r : ℕ). ink x (outcome_lines r ts 0 queues)) e
 
-pub counted_written : {p q r s : Pen} (ts : List ℕ) (queues count n : ℕ) → n ≡ known_in ts → Writes p q (count_line count)
-    → Writes q r (outcome_lines n ts 0 queues) → Writes r s (others_line (get_or ts 1 0)) → Writes p s (counted_text count ts queues)
-unfolding counted_text outcomes_text
-counted_written ts queues count n k d e f = writes_then _ _ d (writes_then _ _ (rw k at e) f)
-
-pub lines_written : (room after text : List ℕ) (pen : Option ℕ) → ink (Some 0, room) text ≡ (pen, after)
-    → put_lines room text ≡ (written_of pen, after)
-unfolding put_lines
-lines_written room after text pen e = ap pen_says e
+pub lines_written : (room after ts : List ℕ) (queues count n : ℕ) (x y : Page) (pen : Option ℕ) (r : Result ℕ Refusal) → n ≡ known_in ts
+    → ink (Some 0, room) (count_line count) ≡ x → ink x (outcome_lines n ts 0 queues) ≡ y → ink y (others_line (get_or ts 1 0)) ≡ (pen, after)
+    → r ≡ written_of pen → put_lines room (counted_text count ts queues) ≡ (r, after)
+unfolding put_lines counted_text outcomes_text
+lines_written room after ts queues count n x y pen r k d e f w =
+    ap pen_says (ink_then (Some 0, room) _ _ d (ink_then x _ _ (rw k at e) f)) ∙ ap (λ (v : Result ℕ Refusal). (v, after)) (sym w)

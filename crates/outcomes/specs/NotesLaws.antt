@@ -1,9 +1,10 @@
 -- Noting piece after piece notes it all.
 use Prim.Native.Nat.{ℕ, suc, ◌+◌, ◌-◌, ◌≤◌, ◌<◌}
-use Rattle.std.specs.Prelude.{◌≡◌, refl, length, take, drop, get_or, set}
+use denote.Ref.{Bor}
+use Rattle.std.specs.Prelude.{◌≡◌, refl, map, length, take, drop, get_or, set}
 use Rattle.std.proofs.Math.Path.{ap}
 use Rattle.std.proofs.Common.{◌∙◌, length-append, drop_of_length-le, drop-cons, lt-ltb, le-ltb}
-use mathlib.Core.List.{List, [], ◌∷◌, ◌++◌, append_assoc}
+use mathlib.Core.List.{List, [], ◌∷◌, ◌++◌, append_assoc, map-append}
 use native.Mathlib.Omega.{arith}
 use Rattle.std.proofs.Math.Numerals.{add-one}
 use Rattle.std.proofs.Math.Seq.{take-nil, set-append_seam}
@@ -32,6 +33,15 @@ note_first x b bs e f = rw e f
 pub note_last : {y z : Notes} (x : Notes) (bs : List ℕ) (b : ℕ) → note x bs ≡ y → note_one y b ≡ z → note x (bs ++ (b ∷ [])) ≡ z
 unfolding note
 note_last x bs b e f = note_then x bs (b ∷ []) e f
+
+pub note_only : {y : Notes} (x : Notes) (b : ℕ) → note_one x b ≡ y → note x (b ∷ []) ≡ y
+unfolding note
+note_only x b e = e
+
+-- numbers that an iterator yields: one more
+pub note_yielded : {y z : Notes} (x : Notes) (xs : List (Bor ℕ)) (b : Bor ℕ) → note x (map (λ r. r.now) xs) ≡ y → note_one y b.now ≡ z
+    → note x (map (λ r. r.now) (xs ++ (b ∷ []))) ≡ z
+note_yielded x xs b e f = rw map-append (note_last x _ b.now e f)
 
 -- the first m of the numbers: one more, or none
 module _ (x : Notes) (ns : List ℕ) (m i : ℕ) where

@@ -10,7 +10,9 @@ use Rattle.words.specs.declared.Queue.{Queue}
 use Rattle.words.specs.declared.Sizes.{Sizes}
 use Rattle.words.specs.Layout.{limits, measured, words}
 use Rattle.answers.specs.declared.End.{End}
-use Rattle.answers.specs.Said.{Said, refused, says, Run, after, an_end}
+use Rattle.answers.specs.declared.Why.{Why}
+use Rattle.answers.specs.declared.Why.TheVariants.{Ended, Spent, Idle, Damaged}
+use Rattle.answers.specs.Said.{Said, refused, says, Run, after, an_end, why_says}
 use Rattle.steps.specs.Run.{run_measured, run_of}
 use Rattle.fresh.specs.Fresh.{fresh_table, fresh_of}
 use Rattle.asks.specs.Listing.{listing_of}
@@ -63,6 +65,15 @@ module _ (x : Notes) (left : ℕ) (t : List ℕ) where
       ap (λ (p : Played). into x (at_end p)) (steps_run returned left t h ∙ ap (ran_played returned left) r)
       ∙ ap (into x) e
       ∙ into_none x u
+
+  -- a run that ended no operation
+  pub steps_halted : (u : List ℕ) (n : ℕ) (w : Why) → 0 < left → run_of left t ≡ (says (after n (why_says w)), u) → ((e : End) → w ≡ Ended e → ⊥)
+      → into x (replay_steps left t) ≡ (x, u)
+  unfolding ran_played
+  steps_halted u n (Ended e) h r f = absurd (f e refl)
+  steps_halted u n Spent h r f = steps_stopped u _ h r refl
+  steps_halted u n Idle h r f = steps_stopped u _ h r refl
+  steps_halted u n Damaged h r f = steps_stopped u _ h r refl
 
 pub steps_none : (x : Notes) (left : ℕ) (t : List ℕ) → left ≤ 0 → into x (replay_steps left t) ≡ (x, t)
 unfolding steps_of

@@ -1,8 +1,7 @@
 -- The tallies: how many outcomes are kept and the schedules of the others; then for each one its schedules and the four words of its key.
-use Rattle.std.specs.Prelude.{ℕ, zero, suc, ◌+◌, ◌*◌, ◌≤◌, ◌≡◌, List, Bool, true, cond, ◌&&◌, length, get_or, set, replicate, leb, ltb, eqb}
+use Rattle.std.specs.Prelude.{ℕ, zero, suc, ◌+◌, ◌*◌, ◌≤◌, ◌≡◌, List, [], ◌∷◌, Bool, true, cond, ◌&&◌, length, get_or, set, replicate, leb, ltb, eqb}
 use Rattle.words.specs.declared.Sizes.{Sizes}
 use Rattle.words.specs.Layout.{limits, words}
-use Rattle.outcomes.specs.declared.Key.{Key}
 use Rattle.outcomes.specs.Notes.{over}
 use Rattle.outcomes.specs.Outcomes.{outcome_of}
 
@@ -10,9 +9,13 @@ use Rattle.outcomes.specs.Outcomes.{outcome_of}
 unfoldable pub word_of : List ℕ → ℕ → ℕ
 word_of xs i = ((get_or xs (i + 3) 0 * 65536 + get_or xs (i + 2) 0) * 65536 + get_or xs (i + 1) 0) * 65536 + get_or xs i 0
 
+-- a key: four words
+abbrev pub Key : Type 0
+Key = List ℕ
+
 -- the key of sixteen numbers
 unfoldable pub key_of : List ℕ → Key
-key_of xs = record { a = word_of xs 0; b = word_of xs 4; c = word_of xs 8; d = word_of xs 12 }
+key_of xs = word_of xs 0 ∷ word_of xs 4 ∷ word_of xs 8 ∷ word_of xs 12 ∷ []
 
 -- how many outcomes are kept: 1,024 at most
 unfoldable pub known_in : List ℕ → ℕ
@@ -20,9 +23,9 @@ known_in ts = cond (ltb (get_or ts 0 0) 1024) (get_or ts 0 0) 1024
 
 unfoldable pub has_key : List ℕ → ℕ → Key → Bool
 has_key ts i key =
-    eqb (get_or ts (3 + 5 * i) 0) key.a
-    && (eqb (get_or ts (3 + 5 * i + 1) 0) key.b
-    && (eqb (get_or ts (3 + 5 * i + 2) 0) key.c && eqb (get_or ts (3 + 5 * i + 3) 0) key.d))
+    eqb (get_or ts (3 + 5 * i) 0) (get_or key 0 0)
+    && (eqb (get_or ts (3 + 5 * i + 1) 0) (get_or key 1 0)
+    && (eqb (get_or ts (3 + 5 * i + 2) 0) (get_or key 2 0) && eqb (get_or ts (3 + 5 * i + 3) 0) (get_or key 3 0)))
 
 -- which of so many outcomes from outcome i on has the key; the one after them where none has
 unfoldable pub place_from : ℕ → List ℕ → ℕ → Key → ℕ
@@ -41,9 +44,9 @@ unfoldable pub add_entry : List ℕ → ℕ → Key → List ℕ
 add_entry ts n key =
     set
     (set
-    (set (set (set (set ts 0 (n + 1)) (2 + 5 * n) 1) (2 + 5 * n + 1) key.a) (2 + 5 * n + 2) key.b)
-    (2 + 5 * n + 3) key.c)
-    (2 + 5 * n + 4) key.d
+    (set (set (set (set ts 0 (n + 1)) (2 + 5 * n) 1) (2 + 5 * n + 1) (get_or key 0 0)) (2 + 5 * n + 2) (get_or key 1 0))
+    (2 + 5 * n + 3) (get_or key 2 0))
+    (2 + 5 * n + 4) (get_or key 3 0)
 
 -- n outcomes are kept, and i of them come before the one with this key
 unfoldable pub count_at : List ℕ → ℕ → ℕ → Key → List ℕ

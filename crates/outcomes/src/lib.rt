@@ -2,11 +2,10 @@
 // and written as lines.
 #![tactic(auto)]
 
-ghost use Rattle.std.specs.Prelude.{◌≡◌, true, ◌+◌, ◌*◌, ◌%◌, ◌≤◌, ◌<◌, [], ◌∷◌, Some, length, take};
-ghost use Rattle.words.specs.declared.Measured.TheVariants.{Sized};
+ghost use Rattle.std.specs.Prelude.{◌≡◌, true, ℕ, ◌+◌, ◌*◌, ◌%◌, ◌≤◌, ◌<◌, List, [], ◌∷◌, length, replicate, MatchOption, Some};
 ghost use Rattle.words.specs.Layout.{limits, measured, words};
 ghost use Rattle.fresh.specs.Fresh.{fresh_of};
-ghost use Rattle.loglines.specs.Ink.{ink, Writes};
+ghost use Rattle.loglines.specs.Ink.{Writes};
 ghost use Rattle.outcomes.specs.Notes.{note_one, note};
 ghost use Rattle.outcomes.specs.Outcomes.{
   into,
@@ -34,7 +33,6 @@ ghost use Rattle.outcomes.specs.Tallies.{
 ghost use Rattle.outcomes.specs.Lines.{
   part_of,
   number_in,
-  decimal_in,
   decimal_of,
   value_text,
   queue_head,
@@ -47,9 +45,11 @@ ghost use Rattle.outcomes.specs.Lines.{
   put_lines,
 };
 
-use answers::{Counted, End, Ran};
+use answers::{End, Refusal, Why};
+use entries::Schedule;
 use loglines::Pen;
-use words::{Measured, Queue, Sizes};
+use std::marker::Model;
+use words::{Queue, Sizes};
 
 // Ends what the dequeues returned, and each queue's nodes; no node has this number.
 const MARK: u16 = 65535;
@@ -63,363 +63,265 @@ pub const TALLIES: usize = 5122;
 // Room that is enough for the lines of any tallies.
 pub const LINES: usize = 262144;
 
-// An outcome's numbers, four to a word.
-#[derive(Clone, Copy)]
-pub struct Key {
-    pub a: u64,
-    pub b: u64,
-    pub c: u64,
-    pub d: u64,
+// An outcome's first sixteen numbers: those that were noted, and zeros behind them.
+#[derive(Drop)]
+struct Notes {
+    n: usize,
+    numbers: [u16; 16],
 }
 
-// How many bytes were written, or 12 where the room was too small.
-#[derive(Clone, Copy)]
-pub enum Written {
-    Bytes(usize),
-    Refused(u16),
+impl Model for Notes {
+    ghost Value = { ℕ × List ℕ };
+
+    ghost view = { λ s. (s.n, s.numbers) };
+
+    ghost invariant = { λ s. length s.numbers ≡ 16 };
 }
 
-// Notes a number at place n, if the notes have it, and answers the next place.
-fn put_note(notes: &mut [u16], n: usize, x: u16) -> usize
-    ensures { note_one (n, notes.old) x ≡ (result, notes.new) }
-{
-    if n < notes.len() {
-        notes[n] = x;
-        n + 1
-    } else {
-        n
-    }
-}
-
-// Notes the first m of the numbers.
-fn put_notes(notes: &mut [u16], n: usize, numbers: &[u16], m: usize) -> usize
-    ensures { note (n, notes.old) (take m numbers.now) ≡ (result, notes.new) }
-{
-    let mut at = n;
-    let mut i = 0;
-    while i < numbers.len() {
-        if m <= i {
-            return at;
-        }
-        at = put_note(notes, at, numbers[i]);
-        i += 1;
-    }
-    at
-}
-
-// Notes what an operation that ended returned: a dequeue's node, 0 for empty.
-fn note_end(notes: &mut [u16], n: usize, e: End) -> usize
-    ensures { note (n, notes.old) (returned e) ≡ (result, notes.new) }
-{
-    if e.op == 2 {
-        put_note(notes, n, e.node.0)
-    } else {
-        n
-    }
-}
-
-// Takes so many steps of a table that was measured, and notes what was returned.
-fn replay_sized(t: &mut [u16], s: Sizes, count: u16, notes: &mut [u16], n: usize) -> usize
-    requires { measured t.old ≡ Sized s }
-    ensures { into (n, notes.old) (replay_steps count t.old) ≡ ((result, notes.new), t.new) }
-{
-    let mut at = n;
-    let mut left = count;
-    while 0 < left {
-        match steps::run_sized(t, s, left) {
-            Ran::Ended(k, e) => {
-                at = note_end(notes, at, e);
-                left -= k;
-            }
-            Ran::Spent(_) => {
-                return at;
-            }
-            Ran::Idle(_) => {
-                return at;
-            }
-            Ran::Damaged(_) => {
-                return at;
-            }
-            Ran::Refused(_) => {
-                return at;
-            }
+impl Notes {
+    fn new() -> Self
+        ensures { result ≡ (0, replicate 16 0) }
+    {
+        Notes {
+            n: 0,
+            numbers: [0; 16],
         }
     }
-    at
-}
 
-// Takes so many steps, and notes what was returned.
-fn replay_steps(t: &mut [u16], count: u16, notes: &mut [u16], n: usize) -> usize
-    ensures { into (n, notes.old) (replay_steps count t.old) ≡ ((result, notes.new), t.new) }
-{
-    match words::measure(t) {
-        Measured::Sized(s) => replay_sized(t, s, count, notes, n),
-        Measured::Unfit => n,
-    }
-}
-
-// Replays the k operations, each after its steps, and the steps after the last; notes what was returned.
-fn replay(t: &mut [u16], ops: &[u16], k: usize, path: [u16; 7], notes: &mut [u16]) -> usize
-    requires { (k ≤ 6) × (4 * k ≤ length ops.now) }
-    ensures { into (0, notes.old) (replay_from k ops.now path 0 t.old)
-        ≡ ((result, notes.new), t.new) }
-{
-    let mut at = 0;
-    let mut i = 0;
-    while i < k {
-        at = replay_steps(t, path[i], notes, at);
-        ways::take_begin(t, ways::op_in(ops, i));
-        i += 1;
-    }
-    replay_steps(t, path[i], notes, at)
-}
-
-// Notes the queue's nodes from first to last, none where it is not quiet, and the mark.
-fn note_queue(t: &[u16], q: Queue, notes: &mut [u16], n: usize) -> usize
-    ensures { note (n, notes.old) (queue_nodes t.now q.0) ≡ (result, notes.new) }
-{
-    let mut nodes = [0u16; 6];
-    match asks::listing(t, q, &mut nodes) {
-        Counted::Are(m) => {
-            let at = put_notes(notes, n, &nodes, words::wide(m));
-            put_note(notes, at, MARK)
+    // Notes a number, if there is room.
+    #[tactic(auto, unfolding(crate::specs::Notes::note_one))]
+    fn put(&mut self, x: u16)
+        ensures { note_one self.old x ≡ self.new }
+    {
+        if self.n < self.numbers.len() {
+            self.numbers[self.n] = x;
+            self.n += 1;
         }
-        Counted::Refused(_) => put_note(notes, n, MARK),
     }
-}
 
-fn note_queues(t: &[u16], queues: u16, notes: &mut [u16], n: usize) -> usize
-    ensures { note (n, notes.old) (queues_nodes t.now 1 queues) ≡ (result, notes.new) }
-{
-    let mut at = n;
-    let mut i: u16 = 0;
-    while i < queues {
-        i += 1;
-        at = note_queue(t, Queue(i), notes, at);
+    // Notes what an operation that ended returned: a dequeue's node, 0 for empty.
+    #[tactic(auto, unfolding(crate::specs::Notes::note, crate::specs::Outcomes::returned))]
+    fn put_end(&mut self, e: End)
+        ensures { note self.old (returned e) ≡ self.new }
+    {
+        if e.op == 2 {
+            self.put(e.node.0);
+        }
     }
-    at
-}
 
-// Replays the schedule from a fresh table, and notes its outcome.
-fn note_outcome(
-    t: &mut [u16],
-    levels: u16,
-    queues: u16,
-    nodes: u16,
-    ops: &[u16],
-    k: usize,
-    path: [u16; 7],
-    notes: &mut [u16],
-)
-    requires { (k ≤ 6) × (4 * k ≤ length ops.now) }
-    ensures { (note (0, notes.old)
-        (outcome_from queues ops.now k path (fresh_of (sizes levels queues nodes) t.old).1)).1
-        ≡ notes.new }
-{
-    fresh::fresh_table(t, levels, queues, nodes);
-    let at = replay(t, ops, k, path, notes);
-    let next = put_note(notes, at, MARK);
-    note_queues(t, queues, notes, next);
-}
+    // Takes so many steps of a table that was measured, and notes what was returned.
+    fn replay_sized(&mut self, t: &mut [u16], s: Sizes, count: u16)
+        requires { measured t.old ≡ Some s }
+        ensures { into self.old (replay_steps count t.old) ≡ (self.new, t.new) }
+    {
+        let mut left = count;
+        while 0 < left {
+            let ran = steps::run_sized(t, s, left);
+            let Why::Ended(e) = ran.why else {
+                return;
+            };
+            self.put_end(e);
+            left -= ran.steps;
+        }
+    }
 
-fn long(x: u16) -> u64
-    ensures { (result ≡ x) × (result < 65536) }
-{
-    x as u64
+    // Takes so many steps, and notes what was returned.
+    fn replay_steps(&mut self, t: &mut [u16], count: u16)
+        ensures { into self.old (replay_steps count t.old) ≡ (self.new, t.new) }
+    {
+        if let Some(s) = words::measure(t) {
+            self.replay_sized(t, s, count);
+        }
+    }
+
+    // Replays the operations, each after its steps, and the steps after the last; notes what was returned.
+    fn replay(&mut self, t: &mut [u16], schedule: &Schedule)
+        ensures { into self.old (replay_from schedule.now.k schedule.now.ops.now schedule.now.path 0 t.old) ≡ (self.new, t.new) }
+    {
+        for i in 0..schedule.k {
+            self.replay_steps(t, schedule.path[i]);
+            ways::take_begin(t, ways::op_in(schedule.ops, i));
+        }
+        self.replay_steps(t, schedule.path[schedule.k]);
+    }
+
+    // Notes the queue's nodes from first to last, none where it is not quiet, and the mark.
+    #[tactic(auto, unfolding(crate::specs::Notes::note))]
+    fn put_queue(&mut self, t: &[u16], q: Queue)
+        ensures { note self.old (queue_nodes t.now q.0) ≡ self.new }
+    {
+        let mut nodes = [0u16; 6];
+        if let Ok(m) = asks::listing(t, q, &mut nodes) {
+            for x in nodes.iter().take(usize::from(m)) {
+                self.put(*x);
+            }
+        }
+        self.put(MARK);
+    }
+
+    fn put_queues(&mut self, t: &[u16], queues: u16)
+        ensures { note self.old (queues_nodes t.now 1 queues) ≡ self.new }
+    {
+        for i in 0..queues {
+            self.put_queue(t, Queue(i + 1));
+        }
+    }
+
+    // The numbers, four to a word.
+    #[tactic(auto, unfolding(crate::specs::Tallies::key_of))]
+    fn key(&self) -> [u64; 4]
+        ensures { result ≡ key_of self.now.1 }
+    {
+        [
+            word_of(&self.numbers, 0),
+            word_of(&self.numbers, 4),
+            word_of(&self.numbers, 8),
+            word_of(&self.numbers, 12),
+        ]
+    }
 }
 
 // Four numbers in one word.
-fn word_of(notes: &[u16], i: usize) -> u64
-    requires { i + 4 ≤ length notes.now }
-    ensures { result ≡ word_of notes.now i }
+#[tactic(auto, unfolding(crate::specs::Tallies::word_of))]
+fn word_of(numbers: &[u16], i: usize) -> u64
+    requires { i + 4 ≤ length numbers.now }
+    ensures { result ≡ word_of numbers.now i }
 {
-    ((long(notes[i + 3]) * 65536 + long(notes[i + 2])) * 65536 + long(notes[i + 1])) * 65536
-        + long(notes[i])
+    u64::from(numbers[i])
+        + (u64::from(numbers[i + 1]) << 16)
+        + (u64::from(numbers[i + 2]) << 32)
+        + (u64::from(numbers[i + 3]) << 48)
 }
 
-fn key_of(notes: &[u16]) -> Key
-    requires { 16 ≤ length notes.now }
-    ensures { result ≡ key_of notes.now }
-{
-    Key {
-        a: word_of(notes, 0),
-        b: word_of(notes, 4),
-        c: word_of(notes, 8),
-        d: word_of(notes, 12),
+// A schedule on a fresh table of these sizes: path[i] steps are taken before operation i of the k begins, and path[k] after the last.
+// kept: the operations are not a Schedule, which says that they fit: tally takes those that do not fit too, and counts none of them.
+#[derive(Clone, Copy)]
+pub struct Trial<'a> {
+    pub levels: u16,
+    pub queues: u16,
+    pub nodes: u16,
+    pub ops: &'a [u16],
+    pub k: usize,
+    pub path: [u16; 7],
+}
+
+impl Trial<'_> {
+    // How many of the lent words the table takes.
+    fn table_words(&self, all: usize) -> usize
+        ensures value { words (sizes self.now.levels self.now.queues self.now.nodes) ≤ all
+            → result ≡ words (sizes self.now.levels self.now.queues self.now.nodes) }
+        ensures upper_bound { result ≤ all }
+    {
+        let n = words::words_of(Sizes {
+            levels: usize::from(self.levels),
+            queues: usize::from(self.queues),
+            nodes: usize::from(self.nodes),
+        });
+        n.min(all)
+    }
+
+    // Replays the schedule from a fresh table, and notes its outcome.
+    fn outcome(&self, schedule: &Schedule, t: &mut [u16]) -> Notes
+        ensures { (note (0, replicate 16 0) (outcome_from self.now.queues schedule.now.ops.now schedule.now.k schedule.now.path
+            (fresh_of (sizes self.now.levels self.now.queues self.now.nodes) t.old).1)) ≡ result }
+    {
+        let mut notes = Notes::new();
+        // of sizes that are refused the contract says nothing
+        let _ = fresh::fresh_table(t, self.levels, self.queues, self.nodes);
+        notes.replay(t, schedule);
+        notes.put(MARK);
+        notes.put_queues(t, self.queues);
+        notes
+    }
+
+    // Counts the schedule. The words t are lent for the table. Tallies that are too short stay as they were. Of operations that do not
+    // fit, of sizes that are refused and of too few words t the contract says nothing; no operations that do not fit are counted.
+    pub fn tally(&self, t: &mut [u16], tallies: &mut [u64])
+        ensures { Fitting (sizes self.now.levels self.now.queues self.now.nodes) t.old self.now.ops.now self.now.k
+            → tallies.new
+            ≡ tallied (sizes self.now.levels self.now.queues self.now.nodes) self.now.ops.now self.now.k self.now.path tallies.old }
+    {
+        if tallies.len() < TALLIES {
+            return;
+        }
+        let Some(schedule) = Schedule::of(self.ops, self.path, self.k) else {
+            return;
+        };
+        let n = self.table_words(t.len());
+        let notes = self.outcome(&schedule, &mut t[..n]);
+        count(tallies, &notes.key());
     }
 }
 
 // How many outcomes are kept.
+#[tactic(auto, unfolding(crate::specs::Tallies::known_in))]
 fn known(tallies: &[u64]) -> usize
     requires { 5122 ≤ length tallies.now }
     ensures { (result ≡ known_in tallies.now) × (result ≤ 1024) }
 {
-    if tallies[0] < 1024 {
-        tallies[0] as usize
-    } else {
-        KEPT
-    }
+    tallies[0].min(KEPT as u64) as usize
 }
 
-fn has_key(tallies: &[u64], i: usize, key: Key) -> bool
+fn has_key(tallies: &[u64], i: usize, key: &[u64; 4]) -> bool
     requires { (5122 ≤ length tallies.now) × (i < 1024) }
-    ensures { result ≡ has_key tallies.now i key }
+    ensures { result ≡ has_key tallies.now i key.now }
 {
     let at = 3 + 5 * i;
-    if tallies[at] == key.a {
-        if tallies[at + 1] == key.b {
-            if tallies[at + 2] == key.c {
-                tallies[at + 3] == key.d
-            } else {
-                false
-            }
-        } else {
-            false
-        }
-    } else {
-        false
-    }
+    tallies[at..at + 4] == key[..]
 }
 
-// Which of the first n outcomes has this key; n where none has.
-fn find_key(tallies: &[u64], n: usize, key: Key) -> usize
+// Which of the first n outcomes has this key.
+fn find_key(tallies: &[u64], n: usize, key: &[u64; 4]) -> Option<usize>
     requires { (5122 ≤ length tallies.now) × (n ≤ 1024) }
-    ensures { (result ≡ place_from n tallies.now 0 key) × (result ≤ n) }
+    ensures { MatchOption result (n ≤ place_from n tallies.now 0 key.now) (λ i. (i ≡ place_from n tallies.now 0 key.now) × (i < n)) }
 {
-    let mut i = 0;
-    while i < n {
-        if has_key(tallies, i, key) {
-            return i;
-        }
-        i += 1;
-    }
-    i
+    (0..n).position(|i| has_key(tallies, i, key))
 }
 
 // A count stays at the largest.
-fn one_more(x: u64) -> u64
-    ensures { result ≡ one_more x }
-{
-    if x < 18446744073709551615 { x + 1 } else { x }
-}
-
+#[tactic(auto, unfolding(crate::specs::Tallies::one_more, crate::specs::Tallies::add_one))]
 fn add_one(tallies: &mut [u64], i: usize)
     requires { i < length tallies.old }
     ensures { tallies.new ≡ add_one tallies.old i }
 {
-    tallies[i] = one_more(tallies[i]);
+    tallies[i] = tallies[i].saturating_add(1);
 }
 
 // One schedule of a new outcome, behind n others.
-fn add_entry(tallies: &mut [u64], n: usize, key: Key)
+fn add_entry(tallies: &mut [u64], n: usize, key: &[u64; 4])
     requires { (5122 ≤ length tallies.old) × (n < 1024) }
-    ensures { tallies.new ≡ add_entry tallies.old n key }
+    ensures { tallies.new ≡ add_entry tallies.old n key.now }
 {
     let at = 2 + 5 * n;
     tallies[0] = (n + 1) as u64;
     tallies[at] = 1;
-    tallies[at + 1] = key.a;
-    tallies[at + 2] = key.b;
-    tallies[at + 3] = key.c;
-    tallies[at + 4] = key.d;
+    tallies[at + 1..at + 5].copy_from_slice(key);
 }
 
 // Counts one schedule with the outcome of this key.
-fn count(tallies: &mut [u64], key: Key)
+fn count(tallies: &mut [u64], key: &[u64; 4])
     requires { 5122 ≤ length tallies.old }
-    ensures { tallies.new ≡ counted tallies.old key }
+    ensures { tallies.new ≡ counted tallies.old key.now }
 {
     let n = known(tallies);
-    let i = find_key(tallies, n, key);
-    if i < n {
-        add_one(tallies, 2 + 5 * i);
-    } else if n < KEPT {
-        add_entry(tallies, n, key);
-    } else {
-        add_one(tallies, 1);
+    match find_key(tallies, n, key) {
+        Some(i) => add_one(tallies, 2 + 5 * i),
+        None if n < KEPT => add_entry(tallies, n, key),
+        None => add_one(tallies, 1),
     }
-}
-
-// How many of the lent words the table takes.
-fn table_words(levels: u16, queues: u16, nodes: u16, all: usize) -> usize
-    ensures value { words (sizes levels queues nodes) ≤ all → result ≡ words (sizes levels queues nodes) }
-    ensures upper_bound { result ≤ all }
-{
-    let n = words::words_of(Sizes {
-        levels: words::wide(levels),
-        queues: words::wide(queues),
-        nodes: words::wide(nodes),
-    });
-    if n < all { n } else { all }
-}
-
-// Counts the schedule, whose operations and tallies fit.
-fn tally_fitting(
-    t: &mut [u16],
-    levels: u16,
-    queues: u16,
-    nodes: u16,
-    ops: &[u16],
-    k: usize,
-    path: [u16; 7],
-    tallies: &mut [u64],
-)
-    requires k_bound { (k ≤ 6) × (4 * k ≤ length ops.now) }
-    requires in_bounds { 5122 ≤ length tallies.old }
-    ensures { limits (sizes levels queues nodes) ≡ true
-        → words (sizes levels queues nodes) ≤ length t.old
-        → tallies.new ≡ tallied (sizes levels queues nodes) ops.now k path tallies.old }
-{
-    let mut notes = [0u16; 16];
-    let n = table_words(levels, queues, nodes, t.len());
-    note_outcome(&mut t[..n], levels, queues, nodes, ops, k, path, &mut notes);
-    count(tallies, key_of(&notes));
-}
-
-// Counts the schedule of these k operations, four words each, with path[i] steps before operation i begins and path[k] after the last.
-// The words t are lent for the table. Tallies that are too short stay as they were. Of operations that do not fit, of sizes that are
-// refused and of too few words t the contract says nothing; no operations that do not fit are counted.
-pub fn tally(
-    t: &mut [u16],
-    levels: u16,
-    queues: u16,
-    nodes: u16,
-    ops: &[u16],
-    k: usize,
-    path: [u16; 7],
-    tallies: &mut [u64],
-)
-    ensures { Fitting (sizes levels queues nodes) t.old ops.now k
-        → tallies.new ≡ tallied (sizes levels queues nodes) ops.now k path tallies.old }
-{
-    if 6 < k {
-        return;
-    }
-    if ops.len() < 4 * k {
-        return;
-    }
-    if tallies.len() < TALLIES {
-        return;
-    }
-    tally_fitting(t, levels, queues, nodes, ops, k, path, tallies);
 }
 
 // Number j of a word's four.
+#[tactic(auto, using(crate::specs::LinesLaws::part_shifted))]
 fn part_of(w: u64, j: usize) -> u16
+    requires { j < 4 }
     ensures { result ≡ part_of w j }
 {
-    if j == 0 {
-        (w % 65536) as u16
-    } else if j == 1 {
-        (w / 65536 % 65536) as u16
-    } else if j == 2 {
-        (w / 4294967296 % 65536) as u16
-    } else {
-        (w / 281474976710656 % 65536) as u16
-    }
+    ((w >> (16 * j)) % 65536) as u16
 }
 
 // Number j of the outcome's key, which starts at this place.
+#[tactic(auto, unfolding(crate::specs::Lines::number_in))]
 fn number_in(tallies: &[u64], key: usize, j: usize) -> u16
     requires { (key + 4 ≤ length tallies.now) × (j < 16) }
     ensures { result ≡ number_in tallies.now key j }
@@ -427,31 +329,11 @@ fn number_in(tallies: &[u64], key: usize, j: usize) -> u16
     part_of(tallies[key + j / 4], j % 4)
 }
 
-fn put_digit(pen: &mut Pen, n: u64)
-    ensures { Writes pen.old pen.new ((48 + n % 10) ∷ []) }
-{
-    pen.put(&[48 + (n % 10) as u8]);
-}
-
-// The last w digits of n at most.
-fn put_digits(pen: &mut Pen, w: usize, n: u64)
-    ensures { Writes pen.old pen.new (decimal_in w n) }
-{
-    if w == 0 {
-        return;
-    }
-    if n < 10 {
-        put_digit(pen, n)
-    } else {
-        put_digits(pen, w - 1, n / 10);
-        put_digit(pen, n)
-    }
-}
-
 fn put_decimal(pen: &mut Pen, n: u64)
     ensures { Writes pen.old pen.new (decimal_of n) }
 {
-    put_digits(pen, 20, n);
+    let mut digits = itoa::Buffer::new();
+    pen.put(digits.format(n).as_bytes());
 }
 
 // ` NODE` or ` empty`
@@ -459,10 +341,10 @@ fn put_value(pen: &mut Pen, x: u16)
     ensures { Writes pen.old pen.new (value_text x) }
 {
     if x == 0 {
-        pen.put(b" empty")
+        pen.put(b" empty");
     } else {
         pen.put(b" ");
-        put_decimal(pen, u64::from(x))
+        put_decimal(pen, u64::from(x));
     }
 }
 
@@ -518,11 +400,10 @@ fn put_outcomes(pen: &mut Pen, tallies: &[u64], n: usize, queues: u16)
 fn put_others(pen: &mut Pen, n: u64)
     ensures { Writes pen.old pen.new (others_line n) }
 {
-    if n == 0 {
-        return;
+    if n != 0 {
+        put_decimal(pen, n);
+        pen.put(b" other\n");
     }
-    put_decimal(pen, n);
-    pen.put(b" other\n")
 }
 
 // `schedules COUNT`
@@ -534,7 +415,7 @@ fn put_count(pen: &mut Pen, n: u64)
     pen.put(b"\n");
 }
 
-fn put_counted(pen: &mut Pen, count: u64, tallies: &[u64], queues: u16)
+fn put_lines(pen: &mut Pen, count: u64, tallies: &[u64], queues: u16)
     requires { 5122 ≤ length tallies.now }
     ensures { Writes pen.old pen.new (counted_text count tallies.now queues) }
 {
@@ -543,23 +424,19 @@ fn put_counted(pen: &mut Pen, count: u64, tallies: &[u64], queues: u16)
     put_others(pen, tallies[1]);
 }
 
-// The lines at the room's start: how many bytes they have, if the room reaches.
-fn write_counted(count: u64, tallies: &[u64], queues: u16, room: &mut [u8]) -> Option<usize>
-    requires { 5122 ≤ length tallies.now }
-    ensures { ink (Some 0, room.old) (counted_text count tallies.now queues) ≡ (result, room.new) }
-{
-    let mut pen = Pen { room, at: Some(0) };
-    put_counted(&mut pen, count, tallies, queues);
-    pen.at
-}
-
-// How many schedules there are, then a line for each outcome in the order of their first schedules, and one for the others.
-pub fn write_outcomes(count: u64, tallies: &[u64], queues: u16, room: &mut [u8]) -> Written
+// How many schedules there are, then a line for each outcome in the order of their first schedules, and one for the others: how many bytes
+// they have, or that the room is too small.
+#[tactic(auto, unfolding(crate::specs::Lines::put_lines))]
+pub fn write_outcomes(
+    count: u64,
+    tallies: &[u64],
+    queues: u16,
+    room: &mut [u8],
+) -> Result<usize, Refusal>
     requires { 5122 ≤ length tallies.now }
     ensures { put_lines room.old (counted_text count tallies.now queues) ≡ (result, room.new) }
 {
-    match write_counted(count, tallies, queues, room) {
-        Some(n) => Written::Bytes(n),
-        None => Written::Refused(12),
-    }
+    let mut pen = Pen { room, at: Some(0) };
+    put_lines(&mut pen, count, tallies, queues);
+    pen.at.ok_or(Refusal::Room)
 }

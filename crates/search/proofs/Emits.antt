@@ -1,5 +1,5 @@
 -- What the proofs of one schedule more cite.
-use Rattle.std.specs.Prelude.{ℕ, zero, suc, ◌+◌, ◌-◌, ◌≤◌, ◌<◌, ◌≡◌, Bool, true, false, length, take, set, leb}
+use Rattle.std.specs.Prelude.{ℕ, zero, suc, ◌+◌, ◌-◌, ◌≤◌, ◌<◌, ◌≡◌, Bool, true, false, length, take, set, leb, Option, Some, None}
 use Rattle.std.proofs.Math.Path.{refl}
 use Rattle.std.proofs.Common.{sym, ap, ◌∙◌, arith, add-one}
 use mathlib.Core.List.{List, [], ◌∷◌}
@@ -8,18 +8,16 @@ use Rattle.heads.specs.Put.{Put}
 use Rattle.text.specs.declared.Opening.{Opening}
 use Rattle.text.specs.Text.{opening_text, events_text, text_of}
 use Rattle.ways.specs.declared.Op.{Op}
-use Rattle.ways.specs.declared.Tail.{Tail}
-use Rattle.ways.specs.declared.Tail.TheVariants.{Ends, Cut}
 use Rattle.ways.specs.Schedules.{ops_in}
 use Rattle.entries.specs.Texts.{first, others, events_of}
 use Rattle.entries.proofs.Entries.{text_length}
-use Rattle.outcomes.specs.Tallies.{tallied}
 use Rattle.outcomes.specs.TalliesLaws.{tallied_take}
 use Rattle.search.specs.declared.Asked.{Asked}
 use Rattle.search.specs.declared.Listed.{Listed}
+use Rattle.search.specs.declared.Stop.TheVariants.{Cut, Full}
 use Rattle.search.specs.declared.What.{What}
 use Rattle.search.specs.declared.What.TheVariants.{Count, Tally, Measure, Write}
-use Rattle.search.specs.Walk.{sizes_of, ops_of, entry_text, State, more, going, cut, full, shut}
+use Rattle.search.specs.Walk.{sizes_of, ops_of, entry_text, State, more, is_going, shut}
 use Rattle.search.specs.Walk.{fits, noted, written, entered, emitted, tailed}
 use Rattle.search.proofs.Laws.{count_more}
 
@@ -89,7 +87,7 @@ module _ (text room : List ℕ) (l : Listed) (n : ℕ) (b : Bool) (size : n ≡ 
   unfolding noted
   measured_fits r y e = rw (test, y, ← size, e) refl
 
-  pub measured_full : (r : Listed) → b ≡ false → r ≡ shut full l → r ≡ noted text l room
+  pub measured_full : (r : Listed) → b ≡ false → r ≡ shut Full l → r ≡ noted text l room
   unfolding noted
   measured_full r y e = rw (test, y, e) refl
 
@@ -97,19 +95,19 @@ module _ (text room : List ℕ) (l : Listed) (n : ℕ) (b : Bool) (size : n ≡ 
   unfolding written
   written_fits out x to y f p = rw (test, y, f, p.is) refl
 
-  pub written_full : b ≡ false → room ≡ written text l room
+  pub written_full : b ≡ false → written text l room ≡ room
   unfolding written
   written_full y = rw (test, y) refl
 
 -- ---- one schedule more
 
 module _ (a : Asked) (ws : List ℕ) where
-  pub emit_bound : (cs : List ℕ) (l r : Listed) (lent : List ℕ × List ℕ) → l.stop ≡ going → a.bound ≤ l.count
-      → r ≡ shut cut l → emitted a ws cs (l, lent) ≡ (r, lent)
+  pub emit_bound : (cs : List ℕ) (l r : Listed) (lent : List ℕ × List ℕ) → is_going l.stop ≡ true → a.bound ≤ l.count
+      → r ≡ shut Cut l → emitted a ws cs (l, lent) ≡ (r, lent)
   unfolding emitted
   emit_bound cs l r lent h k e = rw (h, le-leb a.bound l.count k, e) refl
 
-  pub emit_open : (cs : List ℕ) (st : State) → st.0.stop ≡ going → st.0.count < a.bound
+  pub emit_open : (cs : List ℕ) (st : State) → is_going st.0.stop ≡ true → st.0.count < a.bound
       → emitted a ws cs st ≡ entered a ws cs a.what st
   unfolding emitted
   emit_open cs st h k = rw (h, lt-leb a.bound st.0.count k) refl
@@ -122,43 +120,22 @@ module _ (a : Asked) (ws : List ℕ) where
   entered_take path Measure st = rw (entry_take a ws path) refl
   entered_take path Write st = rw (entry_take a ws path) refl
 
-  module _ (path : List ℕ) (l r : Listed) (room ts : List ℕ) (goes : l.stop ≡ going) (wanted : l.count < a.bound) where
-    emit_on : (w : What) (out : State) → a.what ≡ w → entered a ws path w (l, (room, ts)) ≡ out
-        → emitted a ws (take (a.operations + 1) path) (l, (room, ts)) ≡ out
-    emit_on w out e f =
-        emit_open (take (a.operations + 1) path) (l, (room, ts)) goes wanted
-        ∙ entered_take path a.what (l, (room, ts))
-        ∙ ap (λ (v : What). entered a ws path v (l, (room, ts))) e
-        ∙ f
-
-    pub counted_so : a.what ≡ Count → r ≡ more 0 l → emitted a ws (take (a.operations + 1) path) (l, (room, ts)) ≡ (r, (room, ts))
-    unfolding entered
-    counted_so e f = emit_on Count (r, (room, ts)) e (rw f refl)
-
-    pub tallied_so : (us : List ℕ) → a.what ≡ Tally → r ≡ more 0 l → us ≡ tallied (sizes_of a) ws a.operations path ts
-        → emitted a ws (take (a.operations + 1) path) (l, (room, ts)) ≡ (r, (room, us))
-    unfolding entered
-    tallied_so us e f g = emit_on Tally (r, (room, us)) e (rw (f, g) refl)
-
-    pub measured_so : a.what ≡ Measure → r ≡ noted (entry_text a ws path) l room
-        → emitted a ws (take (a.operations + 1) path) (l, (room, ts)) ≡ (r, (room, ts))
-    unfolding entered
-    measured_so e f = emit_on Measure (r, (room, ts)) e (rw f refl)
-
-    pub written_so : (out : List ℕ) → a.what ≡ Write → r ≡ noted (entry_text a ws path) l room
-        → out ≡ written (entry_text a ws path) l room
-        → emitted a ws (take (a.operations + 1) path) (l, (room, ts)) ≡ (r, (out, ts))
-    unfolding entered
-    written_so out e f g = emit_on Write (r, (out, ts)) e (rw (f, g) refl)
+  pub emit_on : (path : List ℕ) (st out : State) (w : What) → is_going st.0.stop ≡ true → st.0.count < a.bound → a.what ≡ w
+      → out ≡ entered a ws path w st → emitted a ws (take (a.operations + 1) path) st ≡ out
+  emit_on path st out w goes wanted e f =
+      emit_open (take (a.operations + 1) path) st goes wanted
+      ∙ entered_take path a.what st
+      ∙ ap (λ (v : What). entered a ws path v st) e
+      ∙ sym f
 
   -- ---- the steps after the last begin
 
-  pub ends_so : (path : List ℕ) (x : Tail) (m : ℕ) (st out : State) → a.operations < length path → x ≡ Ends m
+  pub ends_so : (path : List ℕ) (x : Option ℕ) (m : ℕ) (st out : State) → a.operations < length path → x ≡ Some m
       → emitted a ws (take (a.operations + 1) (set path a.operations m)) st ≡ out
       → tailed a ws (take a.operations path) x st ≡ out
   unfolding tailed
   ends_so path x m st out h e f = rw e (ap (λ (cs : List ℕ). emitted a ws cs st) (sym (count_more path a.operations m h)) ∙ f)
 
-  pub cut_so : (path : List ℕ) (x : Tail) (st : State) → x ≡ Cut → tailed a ws (take a.operations path) x st ≡ st
+  pub cut_so : (path : List ℕ) (x : Option ℕ) (st : State) → x ≡ None → tailed a ws (take a.operations path) x st ≡ st
   unfolding tailed
   cut_so path x st e = rw e refl

@@ -1,23 +1,21 @@
 -- What the explorers' proofs cite.
 use Prim.Native.Nat.{ℕ, zero, suc, ◌+◌, ◌-◌, ◌<◌, ◌≤◌}
-use Rattle.std.specs.Prelude.{◌≡◌, Bool, cond, length, take, set}
+use Rattle.std.specs.Prelude.{◌≡◌, Bool, cond, length, take, set, Option, Some, None}
 use Rattle.std.proofs.Math.Path.{refl, sym, ap}
-use Rattle.std.proofs.Common.{◌∙◌, add-one, take-suc-set, ne_eqb}
+use Rattle.std.proofs.Common.{◌∙◌, add-one, take-suc-set}
 use Rattle.std.proofs.Math.Bool.{true, false}
 use mathlib.Core.List.{List, [], ◌∷◌, ◌++◌, append_assoc}
 use native.Mathlib.Omega.{arith}
 use Rattle.std.proofs.Math.Numerals.{sub-one}
-use Rattle.words.specs.Layout.{agrees}
-use Rattle.words.specs.Laws.{and_true, measured_agrees, measured_fits}
+use Rattle.words.specs.Layout.{words}
+use Rattle.words.specs.Laws.{measured_fits}
 use Rattle.ways.specs.declared.Op.{Op}
-use Rattle.ways.specs.declared.Tail.{Tail}
-use Rattle.ways.specs.declared.Tail.TheVariants.{Ends, Cut}
 use Rattle.ways.specs.Schedules.{op_in, ops_in, Move, step, begin, Tried, begun, stepped, idle, ending, after, by_step, by_begin, both}
 use Rattle.ways.specs.Forced.{end_in, stretched, gone_on, last_in, TableOf}
 use Rattle.ways.specs.Stretches.{stretch_low}
 use Rattle.entries.specs.Texts.{counts}
 use Rattle.search.specs.declared.Asked.{Asked}
-use Rattle.search.specs.Walk.{sizes_of, State, going, emitted, tailed, listing, Roomy}
+use Rattle.search.specs.Walk.{sizes_of, State, is_going, emitted, tailed, listing}
 
 -- one count more
 pub count_more : (path : List ℕ) (i n : ℕ) → i < length path → take (i + 1) (set path i n) ≡ take i path ++ (n ∷ [])
@@ -27,11 +25,8 @@ pub last_path : (path : List ℕ) (i n k : ℕ) → k ≡ i + 1 → i < length p
 last_path path i n k e h = ap (λ (j : ℕ). take j (set path i n)) e ∙ count_more path i n h
 
 -- a copy of the table has the words that an outcome's table takes
-pub copied : (a : Asked) (t : List ℕ) (copy : ℕ) → TableOf (sizes_of a) t → copy ≡ length t → Roomy copy a
-unfolding agrees
-copied a t copy m e =
-    let agree = (measured_agrees t (sizes_of a) m).1 in
-    ((and_true _ _ (and_true _ _ agree).0).0, omega (arith, e, (measured_fits t (sizes_of a) m).room))
+pub copied : (a : Asked) (t : List ℕ) (copy : ℕ) → TableOf (sizes_of a) t → copy ≡ length t → words (sizes_of a) ≤ copy
+copied a t copy m e = omega (arith, e, (measured_fits t (sizes_of a) m).room)
 
 module _ (a : Asked) (ws : List ℕ) where
   abbrev L : List ℕ → ℕ → List (List Move) → State → State
@@ -57,11 +52,11 @@ module _ (a : Asked) (ws : List ℕ) where
       rw e (listing_begin pre n xs (emitted a ws (pre ++ (n ∷ counts 0 x)) st))
 
   -- nothing more is listed once it is closed
-  pub emit_closed : (cs : List ℕ) (st : State) → (st.0.stop ≡ going → ⊥) → emitted a ws cs st ≡ st
+  pub emit_closed : (cs : List ℕ) (st : State) → is_going st.0.stop ≡ false → emitted a ws cs st ≡ st
   unfolding emitted
-  emit_closed cs st h = rw (ne_eqb st.0.stop going h) refl
+  emit_closed cs st h = rw h refl
 
-  pub listing_closed : (pre : List ℕ) (n : ℕ) (xs : List (List Move)) (st : State) → (st.0.stop ≡ going → ⊥) → L pre n xs st ≡ st
+  pub listing_closed : (pre : List ℕ) (n : ℕ) (xs : List (List Move)) (st : State) → is_going st.0.stop ≡ false → L pre n xs st ≡ st
   unfolding listing
   listing_closed pre n [] st h = refl
   listing_closed pre n (x ∷ xs) st h = ap (L pre n xs) (emit_closed (pre ++ counts n x) st h) ∙ listing_closed pre n xs st h
@@ -194,12 +189,12 @@ module _ (a : Asked) (ws pre : List ℕ) where
   both_end left n t st =
       listing_append a ws pre n (by_step left t []) (by_begin left t []) st ∙ none_begins left n t (listing a ws pre n (by_step left t []) st)
 
-  cut_short : (n : ℕ) (t : List ℕ) (st : State) → listing a ws pre n (by_step 0 t []) st ≡ tailed a ws pre Cut st
+  cut_short : (n : ℕ) (t : List ℕ) (st : State) → listing a ws pre n (by_step 0 t []) st ≡ tailed a ws pre None st
   unfolding by_step listing tailed
   cut_short n t st = refl
 
   ends_here : (n : ℕ) (st : State) (c : Bool)
-      → listing a ws pre n (cond {A = List (List Move)} c ([] ∷ []) []) st ≡ tailed a ws pre (cond {A = Tail} c (Ends n) Cut) st
+      → listing a ws pre n (cond {A = List (List Move)} c ([] ∷ []) []) st ≡ tailed a ws pre (cond {A = Option ℕ} c (Some n) None) st
   unfolding listing tailed counts
   ends_here n st true = refl
   ends_here n st false = refl
@@ -216,7 +211,7 @@ module _ (a : Asked) (ws pre : List ℕ) where
       by : (b : Bool) → (stepped t).0 ≡ b
           → listing a ws pre (n + 1) (by_step left (stepped t).1 []) st ≡ tailed a ws pre (end_in left (n + 1) (stepped t).1) st
           → listing a ws pre n (by_step (suc left) t []) st
-          ≡ tailed a ws pre (cond b (end_in left (n + 1) (stepped t).1) (cond (idle t) (Ends n) Cut)) st
+          ≡ tailed a ws pre (cond b (end_in left (n + 1) (stepped t).1) (cond (idle t) (Some n) None)) st
       by true e ih = by_step_holds left n t [] st e ∙ both_end left (n + 1) (stepped t).1 st ∙ ih
       by false e ih = ap (λ (mss : List (List Move)). listing a ws pre n mss st) (step_off left t e) ∙ ends_here n st (idle t)
 
@@ -226,7 +221,7 @@ module _ (a : Asked) (ws pre : List ℕ) where
   tail_is left k t st = both_end left 0 t st ∙ step_end left 0 t st
 
 module _ (a : Asked) (ws pre : List ℕ) where
-  cut_so : (n : ℕ) (st : State) → tailed a ws (pre ++ (n ∷ [])) Cut st ≡ st
+  cut_so : (n : ℕ) (st : State) → tailed a ws (pre ++ (n ∷ [])) None st ≡ st
   unfolding tailed
   cut_so n st = refl
 
@@ -239,7 +234,7 @@ module _ (a : Asked) (ws pre : List ℕ) where
     where
       by : (b : Bool) → (begun o t).0 ≡ b
           → listing a ws pre n (by_begin (suc left) t (o ∷ [])) st
-          ≡ tailed a ws (pre ++ (n ∷ [])) (cond b (end_in left 0 (begun o t).1) Cut) st
+          ≡ tailed a ws (pre ++ (n ∷ [])) (cond b (end_in left 0 (begun o t).1) None) st
       by true e =
           by_begin_holds a ws pre left n t o [] st e
           ∙ both_end a ws (pre ++ (n ∷ [])) left 0 (begun o t).1 st
@@ -274,7 +269,7 @@ module _ (a : Asked) (ws pre : List ℕ) where
       (begin_none a ws pre m k v (ops_in rest ws i) st z)
 
   -- where one operation remains
-  pub step_last : (n left rest i k m : ℕ) (t v pre' : List ℕ) (o : Op) (x : Tail) (st mid out : State) → rest ≡ 1 → o ≡ op_in ws i
+  pub step_last : (n left rest i k m : ℕ) (t v pre' : List ℕ) (o : Op) (x : Option ℕ) (st mid out : State) → rest ≡ 1 → o ≡ op_in ws i
       → gone_on o left t ≡ (k, v) → m ≡ n + (left - k) → last_in o k v ≡ x → pre' ≡ pre ++ (m ∷ [])
       → listing a ws pre m (by_step k v (ops_in rest ws i)) st ≡ mid
       → tailed a ws pre' x mid ≡ out
@@ -283,7 +278,7 @@ module _ (a : Asked) (ws pre : List ℕ) where
   step_last n left rest i k m t v pre' o x st mid out p d e z l q f g =
       let ending_so : tailed a ws (pre ++ (m ∷ [])) (last_in (op_in ws i) k v) mid ≡ out =
       ap (λ (c : Op). tailed a ws (pre ++ (m ∷ [])) (last_in c k v) mid) (sym d)
-      ∙ ap (λ (c : Tail). tailed a ws (pre ++ (m ∷ [])) c mid) l
+      ∙ ap (λ (c : Option ℕ). tailed a ws (pre ++ (m ∷ [])) c mid) l
       ∙ ap (λ (c : List ℕ). tailed a ws c x mid) (sym q)
       ∙ g in
       ap (λ (r : ℕ). listing a ws pre n (by_step left t (ops_in r ws i)) st) p
@@ -344,7 +339,7 @@ module _ (a : Asked) (ws pre : List ℕ) where
       (step_none a ws pre' m k v (ops_in (rest - 1) ws (i + 1)) st x)
       (begin_none a ws pre' m k v (ops_in (rest - 1) ws (i + 1)) st x)
 
-  pub begin_last : (n left rest i : ℕ) (t u pre' : List ℕ) (o : Op) (x : Tail) (st out : State) (b : Bool) → (left ≡ 0 → ⊥) → rest ≡ 1
+  pub begin_last : (n left rest i : ℕ) (t u pre' : List ℕ) (o : Op) (x : Option ℕ) (st out : State) (b : Bool) → (left ≡ 0 → ⊥) → rest ≡ 1
       → o ≡ op_in ws i → b ≡ true → begun o t ≡ (b, u) → pre' ≡ pre ++ (n ∷ []) → end_in (left - 1) 0 u ≡ x → tailed a ws pre' x st ≡ out
       → listing a ws pre n (by_begin left t (ops_in rest ws i)) st ≡ out
   begin_last n zero rest i t u pre' o x st out b h p d y e z l g = absurd (h refl)
@@ -352,5 +347,5 @@ module _ (a : Asked) (ws pre : List ℕ) where
       ap (λ (r : ℕ). listing a ws pre n (by_begin (suc left) t (ops_in r ws i)) st) p
       ∙ begin_on n left 0 i t u pre' o st b d y e z
       ∙ tail_is a ws pre' left (i + 1) u st
-      ∙ ap (λ (c : Tail). tailed a ws pre' c st) (simp sub-one at l)
+      ∙ ap (λ (c : Option ℕ). tailed a ws pre' c st) (simp sub-one at l)
       ∙ g

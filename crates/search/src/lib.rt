@@ -3,16 +3,33 @@
 #![tactic(auto)]
 
 ghost use Rattle.std.specs.Prelude.{◌≡◌, true, ◌+◌, ◌≤◌, ◌<◌, length, take, leb};
-ghost use Rattle.ways.specs.Schedules.{op_in, ops_in, begun, by_step, by_begin};
+ghost use Rattle.words.specs.Layout.{words};
+ghost use Rattle.ways.specs.Schedules.{op_in, begun, by_step, by_begin};
 ghost use Rattle.ways.specs.Forced.{TableOf};
-ghost use Rattle.search.specs.Walk.{sizes_of, entry_text, more, shut, noted, written, emitted, tailed, listing, Given, Roomy, Exploring};
+ghost use Rattle.search.specs.declared.What.TheVariants.{Measure, Write};
+ghost use Rattle.search.specs.Walk.{
+  sizes_of,
+  is_going,
+  more,
+  shut,
+  entered,
+  emitted,
+  tailed,
+  ops_at,
+  listing_at,
+  state_of,
+  Kept,
+  Given,
+  Exploring,
+};
 
+use entries::Schedule;
+use outcomes::Trial;
 use text::Opening;
-use ways::Tail;
 use words::Sizes;
 
 // What is done with each schedule: it is counted, its outcome is counted too, or its text is measured, or written.
-#[derive(Clone, Copy)]
+#[derive(Clone, Copy, PartialEq, Eq, Debug)]
 pub enum What {
     Count,
     Tally,
@@ -31,59 +48,75 @@ pub struct Asked {
     pub what: What,
 }
 
-// The schedules listed, their bytes, and how the listing stops. Three words of one width: a copy of a struct that was just written in
-// narrower pieces has to wait for them.
+// How a listing stops: not yet; as many are listed as are wanted and one more exists; the next has no room.
+#[derive(Clone, Copy, PartialEq, Eq, Debug)]
+pub enum Stop {
+    Going,
+    Cut,
+    Full,
+}
+
+// The schedules listed, their bytes, and how the listing stops.
 #[derive(Clone, Copy)]
 pub struct Listed {
     pub count: u64,
     pub at: usize,
-    pub stop: u64,
+    pub stop: Stop,
 }
 
-// How a listing stops: not yet; as many are listed as are wanted and one more exists; the next has no room.
-pub const GOING: u64 = 0;
+// What is listed so far, and what is lent to the search: a table to try the last operation on, the room for the texts, and the tallies.
+#[derive(Drop)]
+pub struct Listing<'a> {
+    pub listed: Listed,
+    pub copy: &'a mut [u16],
+    pub room: &'a mut [u8],
+    pub tallies: &'a mut [u64],
+}
 
-pub const CUT: u64 = 1;
+// What is asked of which operations, four words each: at most six, on a table of sizes within the limits.
+#[derive(Clone, Copy)]
+pub struct Search<'a> {
+    pub asked: Asked,
+    pub ops: &'a [u16],
+    ghost fits: { Given (length ops.now) asked },
+}
 
-pub const FULL: u64 = 2;
+// Where a search stands: operation i is the next, so many moves are left, n steps were taken since the last begin, and the path has the
+// counts of steps before those that have begun.
+#[derive(Clone, Copy)]
+pub struct Spot {
+    pub i: usize,
+    pub left: u16,
+    pub n: u16,
+    pub path: [u16; 7],
+}
 
 // The most words that a table has, and those of a table of few nodes: an array is cleared before it is used, so a small one is quicker.
 pub const WORDS: usize = 2276;
 
-const SMALL: usize = 256;
+pub const SMALL: usize = 256;
 
-// One schedule more, with so many bytes of text.
-fn one_more(listed: Listed, bytes: usize) -> Listed
-    requires { (listed.count < 18446744073709551615) × (listed.at + bytes < 18446744073709551616) }
-    ensures { result ≡ more bytes listed }
-{
-    Listed {
-        count: listed.count + 1,
-        at: listed.at + bytes,
-        stop: listed.stop,
+impl Asked {
+    pub fn sizes(&self) -> Sizes
+        ensures { result ≡ sizes_of self.now }
+    {
+        Sizes {
+            levels: usize::from(self.levels),
+            queues: usize::from(self.queues),
+            nodes: usize::from(self.nodes),
+        }
     }
-}
 
-// Nothing more is listed: CUT, or FULL.
-fn close(listed: Listed, stop: u64) -> Listed
-    ensures { result ≡ shut stop listed }
-{
-    Listed {
-        count: listed.count,
-        at: listed.at,
-        stop,
-    }
-}
-
-// How many bytes the text of a schedule takes, of which so many are its events' lines.
-fn opening_of(asked: Asked, events: u16) -> Opening
-    ensures { result ≡ record { levels = asked.levels; queues = asked.queues; nodes = asked.nodes; events = events } }
-{
-    Opening {
-        levels: asked.levels,
-        queues: asked.queues,
-        nodes: asked.nodes,
-        events,
+    // The opening of a text with so many events.
+    fn opening(&self, events: u16) -> Opening
+        ensures { result ≡ record { levels = self.now.levels; queues = self.now.queues; nodes = self.now.nodes; events = events } }
+    {
+        Opening {
+            levels: self.levels,
+            queues: self.queues,
+            nodes: self.nodes,
+            events,
+        }
     }
 }
 
@@ -92,277 +125,215 @@ fn has_room(all: usize, at: usize, n: usize) -> bool
     ensures value { result ≡ leb (at + n) all }
     ensures n_bound { result ≡ true → at + n ≤ all }
 {
-    if at <= all { n <= all - at } else { false }
+    at <= all && n <= all - at
 }
 
-// One schedule more, whose text is measured only.
-fn measure_entry(asked: Asked, ops: &[u16], path: [u16; 7], listed: Listed, room: &[u8]) -> Listed
-    requires { Given (length ops.now) asked × (listed.count < asked.bound) }
-    ensures { result ≡ noted (entry_text asked ops.now path) listed room.now }
-{
-    let s = entries::events_size(ops, path, asked.operations);
-    let n = lines::opening_length(opening_of(asked, s.events)) + s.bytes;
-    if has_room(room.len(), listed.at, n) {
-        one_more(listed, n)
-    } else {
-        close(listed, FULL)
+impl Listed {
+    // Whether more may be listed.
+    pub fn is_open(&self) -> bool
+        ensures { result ≡ is_going self.now.stop }
+    {
+        self.stop == Stop::Going
     }
-}
 
-// One schedule more, whose text is written.
-fn write_entry(asked: Asked, ops: &[u16], path: [u16; 7], listed: Listed, room: &mut [u8]) -> Listed
-    requires { Given (length ops.now) asked × (listed.count < asked.bound) }
-    ensures value { result ≡ noted (entry_text asked ops.now path) listed room.old }
-    ensures room_after { room.new ≡ written (entry_text asked ops.now path) listed room.old }
-{
-    let s = entries::events_size(ops, path, asked.operations);
-    let o = opening_of(asked, s.events);
-    let n = lines::opening_length(o) + s.bytes;
-    if has_room(room.len(), listed.at, n) {
-        let next = one_more(listed, n);
-        entries::write_text(room, listed.at, o, ops, path, asked.operations);
-        next
-    } else {
-        close(listed, FULL)
+    // One schedule more, with so many bytes of text.
+    fn add(&mut self, bytes: usize)
+        requires { (self.old.count < 18446744073709551615) × (self.old.at + bytes < 18446744073709551616) }
+        ensures { self.new ≡ more bytes self.old }
+    {
+        self.count += 1;
+        self.at += bytes;
+    }
+
+    // Nothing more is listed: Cut, or Full.
+    fn close(&mut self, stop: Stop)
+        ensures { self.new ≡ shut stop self.old }
+    {
+        self.stop = stop;
     }
 }
 
-// One schedule more: its counts are the first of the path, one more than there are operations.
-fn emit(
-    asked: Asked,
-    ops: &[u16],
-    path: [u16; 7],
-    listed: Listed,
-    copy: &mut [u16],
-    room: &mut [u8],
-    tallies: &mut [u64],
-) -> Listed
-    requires { Given (length ops.now) asked × Roomy (length copy.old) asked }
-    ensures { emitted asked ops.now (take (asked.operations + 1) path) (listed, (room.old, tallies.old))
-        ≡ (result, (room.new, tallies.new)) }
-{
-    if listed.stop != GOING {
-        return listed;
-    }
-    if asked.bound <= listed.count {
-        return close(listed, CUT);
-    }
-    let what = asked.what;
-    match what {
-        What::Count => one_more(listed, 0),
-        What::Tally => {
-            outcomes::tally(
-                copy,
-                asked.levels,
-                asked.queues,
-                asked.nodes,
-                ops,
-                asked.operations,
-                path,
-                tallies,
-            );
-            one_more(listed, 0)
+impl Search<'_> {
+    // One schedule more, whose text is measured only.
+    fn measure(&self, path: [u16; 7], out: &mut Listing<'_>)
+        requires { out.old.listed.count < self.now.asked.bound }
+        ensures value { state_of out.new ≡ entered self.now.asked self.now.ops.now path Measure (state_of out.old) }
+        ensures kept { Kept out.old out.new }
+    {
+        let schedule = Schedule {
+            ops: self.ops,
+            path,
+            k: self.asked.operations,
+        };
+        let s = schedule.events_size();
+        let n = lines::opening_length(self.asked.opening(s.events)) + s.bytes;
+        if has_room(out.room.len(), out.listed.at, n) {
+            out.listed.add(n);
+        } else {
+            out.listed.close(Stop::Full);
         }
-        What::Measure => measure_entry(asked, ops, path, listed, room),
-        What::Write => write_entry(asked, ops, path, listed, room),
     }
-}
 
-// All operations have begun, and so many steps follow: one schedule, or none where they do not end.
-pub fn emit_tail(
-    tail: Tail,
-    asked: Asked,
-    ops: &[u16],
-    path: [u16; 7],
-    listed: Listed,
-    copy: &mut [u16],
-    room: &mut [u8],
-    tallies: &mut [u64],
-) -> Listed
-    requires { Given (length ops.now) asked × Roomy (length copy.old) asked }
-    ensures { tailed asked ops.now (take asked.operations path) tail (listed, (room.old, tallies.old))
-        ≡ (result, (room.new, tallies.new)) }
-{
-    match tail {
-        Tail::Ends(m) => {
-            let k = asked.operations;
+    // One schedule more, whose text is written.
+    fn write(&self, path: [u16; 7], out: &mut Listing<'_>)
+        requires { out.old.listed.count < self.now.asked.bound }
+        ensures value { state_of out.new ≡ entered self.now.asked self.now.ops.now path Write (state_of out.old) }
+        ensures kept { Kept out.old out.new }
+    {
+        let schedule = Schedule {
+            ops: self.ops,
+            path,
+            k: self.asked.operations,
+        };
+        let s = schedule.events_size();
+        let o = self.asked.opening(s.events);
+        let n = lines::opening_length(o) + s.bytes;
+        let at = out.listed.at;
+        if has_room(out.room.len(), at, n) {
+            out.listed.add(n);
+            schedule.write_text(out.room, at, o);
+        } else {
+            out.listed.close(Stop::Full);
+        }
+    }
+
+    // One schedule more: its counts are the first of the path, one more than there are operations.
+    fn emit(&self, path: [u16; 7], out: &mut Listing<'_>)
+        requires { words (sizes_of self.now.asked) ≤ length out.old.copy.now }
+        ensures value { emitted self.now.asked self.now.ops.now (take (self.now.asked.operations + 1) path) (state_of out.old)
+            ≡ state_of out.new }
+        ensures kept { Kept out.old out.new }
+    {
+        if !out.listed.is_open() {
+            return;
+        }
+        if self.asked.bound <= out.listed.count {
+            return out.listed.close(Stop::Cut);
+        }
+        match self.asked.what {
+            What::Count => out.listed.add(0),
+            What::Tally => {
+                let trial = Trial {
+                    levels: self.asked.levels,
+                    queues: self.asked.queues,
+                    nodes: self.asked.nodes,
+                    ops: self.ops,
+                    k: self.asked.operations,
+                    path,
+                };
+                trial.tally(out.copy, out.tallies);
+                out.listed.add(0);
+            }
+            What::Measure => self.measure(path, out),
+            What::Write => self.write(path, out),
+        }
+    }
+
+    // All operations have begun, and so many steps follow: one schedule, or none where they do not end.
+    pub fn emit_tail(&self, tail: Option<u16>, path: [u16; 7], out: &mut Listing<'_>)
+        requires { words (sizes_of self.now.asked) ≤ length out.old.copy.now }
+        ensures value { tailed self.now.asked self.now.ops.now (take self.now.asked.operations path) tail (state_of out.old)
+            ≡ state_of out.new }
+        ensures kept { Kept out.old out.new }
+    {
+        if let Some(m) = tail {
             let mut p = path;
-            p[k] = m;
-            emit(asked, ops, p, listed, copy, room, tallies)
+            p[self.asked.operations] = m;
+            self.emit(p, out);
         }
-        Tail::Cut => listed,
     }
-}
 
-// All that goes on with a step: operation i is the next of rest that remain and is accepted now, and n steps were taken since the last
-// begin. The table is used up. Where one operation remains, what follows its begin is tried on the copy before the step, so that nothing
-// has to be saved.
-#[cycle(explore_begin_explore_large_explore_saved_explore_step)]
-pub fn explore_step(
-    t: &mut [u16],
-    s: Sizes,
-    copy: &mut [u16],
-    asked: Asked,
-    ops: &[u16],
-    i: usize,
-    rest: usize,
-    left: u16,
-    n: u16,
-    path: [u16; 7],
-    listed: Listed,
-    room: &mut [u8],
-    tallies: &mut [u64],
-) -> Listed
-    requires exploring { Exploring (length t.old) (length copy.old) (length ops.now) asked i rest left n }
-    requires table_of { TableOf s t.old × (s ≡ sizes_of asked) × ((begun (op_in ops.now i) t.old).0 ≡ true) }
-    ensures { listing asked ops.now (take i path) n
-        (by_step left t.old (ops_in rest ops.now i))
-        (listed, (room.old, tallies.old))
-        ≡ (result, (room.new, tallies.new)) }
-{
-    if listed.stop != GOING {
-        return listed;
-    }
-    let o = ways::op_in(ops, i);
-    let k = ways::go_on(t, s, o, left);
-    if k == 0 {
-        return listed;
-    }
-    let m = n + (left - k);
-    if rest == 1 {
-        let mut p = path;
-        p[i] = m;
-        let tail = ways::try_last(t, s, copy, o, k);
-        let first = explore_step(
-            t, s, copy, asked, ops, i, rest, k, m, path, listed, room, tallies,
-        );
-        return emit_tail(tail, asked, ops, p, first, copy, room, tallies);
-    }
-    let first = explore_saved(
-        t, s, copy, asked, ops, i, rest, k, m, path, listed, room, tallies,
-    );
-    explore_begin(
-        t, s, copy, asked, ops, i, rest, k, m, path, first, room, tallies,
-    )
-}
-
-// All that goes on with a step, on a table saved by value: one of few words, or the largest.
-#[cycle(explore_begin_explore_large_explore_saved_explore_step)]
-fn explore_saved(
-    t: &[u16],
-    s: Sizes,
-    copy: &mut [u16],
-    asked: Asked,
-    ops: &[u16],
-    i: usize,
-    rest: usize,
-    left: u16,
-    n: u16,
-    path: [u16; 7],
-    listed: Listed,
-    room: &mut [u8],
-    tallies: &mut [u64],
-) -> Listed
-    requires exploring { Exploring (length t.now) (length copy.old) (length ops.now) asked i rest left n }
-    requires table_of { TableOf s t.now × (s ≡ sizes_of asked) × ((begun (op_in ops.now i) t.now).0 ≡ true) }
-    ensures { listing asked ops.now (take i path) n
-        (by_step left t.now (ops_in rest ops.now i))
-        (listed, (room.old, tallies.old))
-        ≡ (result, (room.new, tallies.new)) }
-{
-    if SMALL < t.len() {
-        return explore_large(
-            t, s, copy, asked, ops, i, rest, left, n, path, listed, room, tallies,
-        );
-    }
-    let mut saved = [0u16; SMALL];
-    let here = t.len();
-    let u = &mut saved[..here];
-    ways::copy_words(t, u);
-    explore_step(
-        u, s, copy, asked, ops, i, rest, left, n, path, listed, room, tallies,
-    )
-}
-
-#[cycle(explore_begin_explore_large_explore_saved_explore_step)]
-fn explore_large(
-    t: &[u16],
-    s: Sizes,
-    copy: &mut [u16],
-    asked: Asked,
-    ops: &[u16],
-    i: usize,
-    rest: usize,
-    left: u16,
-    n: u16,
-    path: [u16; 7],
-    listed: Listed,
-    room: &mut [u8],
-    tallies: &mut [u64],
-) -> Listed
-    requires exploring { Exploring (length t.now) (length copy.old) (length ops.now) asked i rest left n }
-    requires table_of { TableOf s t.now × (s ≡ sizes_of asked) × ((begun (op_in ops.now i) t.now).0 ≡ true) }
-    ensures { listing asked ops.now (take i path) n
-        (by_step left t.now (ops_in rest ops.now i))
-        (listed, (room.old, tallies.old))
-        ≡ (result, (room.new, tallies.new)) }
-{
-    let mut saved = [0u16; WORDS];
-    let here = t.len();
-    let u = &mut saved[..here];
-    ways::copy_words(t, u);
-    explore_step(
-        u, s, copy, asked, ops, i, rest, left, n, path, listed, room, tallies,
-    )
-}
-
-// All that goes on with the begin of operation i. The table is used up.
-#[cycle(explore_begin_explore_large_explore_saved_explore_step)]
-pub fn explore_begin(
-    t: &mut [u16],
-    s: Sizes,
-    copy: &mut [u16],
-    asked: Asked,
-    ops: &[u16],
-    i: usize,
-    rest: usize,
-    left: u16,
-    n: u16,
-    path: [u16; 7],
-    listed: Listed,
-    room: &mut [u8],
-    tallies: &mut [u64],
-) -> Listed
-    requires exploring { Exploring (length t.old) (length copy.old) (length ops.now) asked i rest left n }
-    requires table_of { TableOf s t.old × (s ≡ sizes_of asked) }
-    ensures { listing asked ops.now (take i path) n
-        (by_begin left t.old (ops_in rest ops.now i))
-        (listed, (room.old, tallies.old))
-        ≡ (result, (room.new, tallies.new)) }
-{
-    if left == 0 {
-        return listed;
-    }
-    if listed.stop != GOING {
-        return listed;
-    }
-    if ways::begin_sized(t, s, ways::op_in(ops, i)) {
-        let mut p = path;
-        p[i] = n;
-        if rest == 1 {
-            let tail = ways::steps_left(t, s, left - 1);
-            return emit_tail(tail, asked, ops, p, listed, copy, room, tallies);
+    // All that goes on with a step: operation i is accepted now. The table is used up. Where one operation remains, what follows its begin
+    // is tried on the copy before the step, so that nothing has to be saved.
+    #[cycle(explore)]
+    pub fn explore_step<const N: usize>(&self, t: &mut [u16], at: Spot, out: &mut Listing<'_>)
+        requires exploring { Exploring N (length t.old) (length out.old.copy.now) self.now.asked at }
+        requires table_of { TableOf (sizes_of self.now.asked) t.old × ((begun (op_in self.now.ops.now at.i) t.old).0 ≡ true) }
+        ensures value { listing_at self.now.asked self.now.ops.now at
+            (by_step at.left t.old (ops_at self.now.asked self.now.ops.now at)) (state_of out.old) ≡ state_of out.new }
+        ensures kept { Kept out.old out.new }
+    {
+        if !out.listed.is_open() {
+            return;
         }
-        let j = i + 1;
-        let r = rest - 1;
-        let k = ways::stretch(t, s, ways::op_in(ops, j), left - 1);
+        let s = self.asked.sizes();
+        let o = ways::op_in(self.ops, at.i);
+        let k = ways::go_on(t, s, o, at.left);
         if k == 0 {
-            return listed;
+            return;
         }
-        let m = left - 1 - k;
-        let first = explore_saved(t, s, copy, asked, ops, j, r, k, m, p, listed, room, tallies);
-        explore_begin(t, s, copy, asked, ops, j, r, k, m, p, first, room, tallies)
-    } else {
-        listed
+        let next = Spot {
+            left: k,
+            n: at.n + (at.left - k),
+            ..at
+        };
+        if at.i + 1 == self.asked.operations {
+            let tail = ways::try_last(t, s, out.copy, o, k);
+            self.explore_step::<N>(t, next, out);
+            let mut path = at.path;
+            path[at.i] = next.n;
+            self.emit_tail(tail, path, out);
+        } else {
+            self.explore_saved::<N>(t, next, out);
+            self.explore_begin::<N>(t, next, out);
+        }
+    }
+
+    // All that goes on with a step, on a table saved by value in N words.
+    #[cycle(explore)]
+    fn explore_saved<const N: usize>(&self, t: &[u16], at: Spot, out: &mut Listing<'_>)
+        requires exploring { Exploring N (length t.now) (length out.old.copy.now) self.now.asked at }
+        requires table_of { TableOf (sizes_of self.now.asked) t.now × ((begun (op_in self.now.ops.now at.i) t.now).0 ≡ true) }
+        ensures value { listing_at self.now.asked self.now.ops.now at
+            (by_step at.left t.now (ops_at self.now.asked self.now.ops.now at)) (state_of out.old) ≡ state_of out.new }
+        ensures kept { Kept out.old out.new }
+    {
+        let mut saved = [0u16; N];
+        let here = t.len();
+        let u = &mut saved[..here];
+        ways::copy_words(t, u);
+        self.explore_step::<N>(u, at, out);
+    }
+
+    // All that goes on with the begin of operation i. The table is used up.
+    #[cycle(explore)]
+    pub fn explore_begin<const N: usize>(&self, t: &mut [u16], at: Spot, out: &mut Listing<'_>)
+        requires exploring { Exploring N (length t.old) (length out.old.copy.now) self.now.asked at }
+        requires table_of { TableOf (sizes_of self.now.asked) t.old }
+        ensures value { listing_at self.now.asked self.now.ops.now at
+            (by_begin at.left t.old (ops_at self.now.asked self.now.ops.now at)) (state_of out.old) ≡ state_of out.new }
+        ensures kept { Kept out.old out.new }
+    {
+        if at.left == 0 {
+            return;
+        }
+        if !out.listed.is_open() {
+            return;
+        }
+        let s = self.asked.sizes();
+        let o = ways::op_in(self.ops, at.i);
+        if !ways::begin_sized(t, s, o) {
+            return;
+        }
+        let left = at.left - 1;
+        let mut path = at.path;
+        path[at.i] = at.n;
+        if at.i + 1 == self.asked.operations {
+            let tail = ways::steps_left(t, s, left);
+            return self.emit_tail(tail, path, out);
+        }
+        let i = at.i + 1;
+        let k = ways::stretch(t, s, ways::op_in(self.ops, i), left);
+        if k == 0 {
+            return;
+        }
+        let next = Spot {
+            i,
+            left: k,
+            n: left - k,
+            path,
+        };
+        self.explore_saved::<N>(t, next, out);
+        self.explore_begin::<N>(t, next, out);
     }
 }

@@ -1,49 +1,76 @@
 -- What the proofs of the public calls cite.
 use Prim.Native.Nat.{ℕ, zero, suc, ◌≤◌, ◌<◌, ◌/◌}
-use Rattle.std.specs.Prelude.{◌≡◌, Bool, true, false, cond, ◌&&◌, length, replicate, take, drop, ltb}
+use Rattle.std.specs.Prelude.{◌≡◌, Bool, true, false, cond, ◌&&◌, length, replicate, take, drop, ltb, Option, None}
 use Rattle.std.proofs.Math.Path.{refl, ap}
 use Rattle.std.proofs.Common.{sym, ◌∙◌, arith}
 use Rattle.std.proofs.Math.Bool.{and-eq-true_iff}
 use mathlib.Core.List.{List, [], ◌++◌, append-nil}
 use Rattle.std.proofs.lemmas.List.{length-replicate}
 use Rattle.std.proofs.Math.Seq.{drop-length}
-use borrow.Author.Tests.{lt-ltb, le-ltb, ltb-false, ne_eqb}
+use borrow.Author.Tests.{lt-ltb, le-ltb, ltb-false}
 use Rattle.words.specs.declared.Sizes.{Sizes}
 use Rattle.words.specs.declared.Frame.{Frame}
 use Rattle.words.specs.Layout.{level, limits, within, words, put_counts, frame_of}
 use Rattle.words.specs.Laws.{within_high}
-use Rattle.answers.specs.Said.{Said, refused, says}
+use Rattle.answers.specs.declared.Refusal.{Refusal}
+use Rattle.answers.specs.Said.{Said, refused, says, number}
 use Rattle.fresh.specs.Fresh.{cleared, ended, fresh_table, fresh_of}
 use Rattle.fresh.specs.Laws.{fresh_measured, fresh_frame}
-use Rattle.steps.specs.declared.Served.TheVariants.{Nobody}
 use Rattle.steps.specs.Step.{serving, step_served, step_sized}
-use Rattle.ways.specs.declared.Tail.{Tail}
 use Rattle.ways.specs.Schedules.{ops_in, Tried, stepped, by_step, by_begin, both, most_moves, fresh, schedules}
 use Rattle.ways.specs.Forced.{end_in, TableOf}
-use Rattle.ways.specs.Calls.{stepped_is}
+use Rattle.ways.specs.Calls.{stepped_is, numbered}
 use Rattle.search.specs.declared.Asked.{Asked}
 use Rattle.search.specs.Walk.{sizes_of, State, tailed, listing, none, listed_of}
 use Rattle.search.proofs.Laws.{listing_append, tail_is, step_stop}
-use Rattle.words.specs.Copies.{part_length}
 use Rattle.tries.specs.Tries.{sizes, operations, texts, why, Answer, listed_in, tries_of, number_of, tallied_all, tallies_of}
 
 -- ---- the refusals
 
-pub why_14 : (s : Sizes) (k : ℕ) → 6 < k → 14 ≡ why s k
+few_nodes : (s : Sizes) → limits s ≡ true → s.nodes ≤ 1024
+unfolding limits
+few_nodes s h =
+    let a = (and-eq-true_iff (within 1 16 s.levels && within 1 8 s.queues) (within s.queues 1024 s.nodes)).0 h in
+    within_high s.queues 1024 s.nodes a.1
+
+-- the table of the greatest sizes has 2,276 words
+pub words_fit : (s : Sizes) → limits s ≡ true → words s ≤ 2276
+unfolding limits
+words_fit s h =
+    let a = (and-eq-true_iff (within 1 16 s.levels && within 1 8 s.queues) (within s.queues 1024 s.nodes)).0 h in
+    let b = (and-eq-true_iff (within 1 16 s.levels) (within 1 8 s.queues)).0 a.0 in
+    let x = within_high 1 16 s.levels b.0 in
+    let y = within_high 1 8 s.queues b.1 in
+    let z = few_nodes s h in
+    omega arith
+
+pub why_14 : (s : Sizes) (k : ℕ) → 6 < k → why s k ≡ 14
 unfolding why
 why_14 s k h = rw (lt-ltb 6 k h) refl
 
-pub why_many : (s : Sizes) (k : ℕ) → k ≤ 6 → 1024 < s.nodes → 2 ≡ why s k
+pub why_2 : (s : Sizes) (k : ℕ) → k ≤ 6 → limits s ≡ false → why s k ≡ 2
 unfolding why
-why_many s k h n = rw (le-ltb 6 k h, lt-ltb 1024 s.nodes n) refl
+why_2 s k h e = rw (le-ltb 6 k h, e) (by (ltb 1024 s.nodes))
+  where
+    by : (b : Bool) → ◌≡◌ {A = ℕ} (cond b 2 2) 2
+    by true = refl
+    by false = refl
 
-pub why_none : (s : Sizes) (k : ℕ) (b : Bool) → k ≤ 6 → s.nodes ≤ 1024 → b ≡ limits s → b ≡ true → 0 ≡ why s k
-unfolding why
-why_none s k b h n e y = rw (le-ltb 6 k h, le-ltb 1024 s.nodes n, ← e, y) refl
+pub why_none : (s : Sizes) (k : ℕ) → k ≤ 6 → limits s ≡ true → why s k ≡ 0
+unfolding why limits
+why_none s k h e = rw (le-ltb 6 k h, le-ltb 1024 s.nodes (few_nodes s e), e) refl
 
-pub why_2 : (s : Sizes) (k : ℕ) (b : Bool) → k ≤ 6 → s.nodes ≤ 1024 → b ≡ limits s → b ≡ false → 2 ≡ why s k
+-- what no refusal says
+pub why_zero : (s : Sizes) (k : ℕ) → why s k ≡ 0 → (k ≤ 6) × (limits s ≡ true)
 unfolding why
-why_2 s k b h n e y = rw (le-ltb 6 k h, le-ltb 1024 s.nodes n, ← e, y) refl
+why_zero s k e = by (ltb 6 k) refl (ltb 1024 s.nodes) (limits s) refl e
+  where
+    by : (x : Bool) → ltb 6 k ≡ x → (y z : Bool) → limits s ≡ z
+        → ◌≡◌ {A = ℕ} (cond x 14 (cond y 2 (cond z 0 2))) 0 → (k ≤ 6) × (limits s ≡ true)
+    by true f y z g h = absurd (omega arith)
+    by false f true z g h = absurd (omega arith)
+    by false f false true g h = (ltb-false 6 k f, g)
+    by false f false false g h = absurd (omega arith)
 
 -- ---- the fresh table
 
@@ -76,7 +103,7 @@ module _ (s : Sizes) (lim : limits s ≡ true) where
   fresh_table_holds = fresh_measured s (replicate (words s) 0) lim zeros_room
 
   -- nothing runs
-  fresh_serves : (n : ℕ) → n ≤ s.levels → serving s (fresh s) n ≡ Nobody
+  fresh_serves : (n : ℕ) → n ≤ s.levels → serving s (fresh s) n ≡ None
   unfolding serving
   fresh_serves zero h = refl
   fresh_serves (suc n) h =
@@ -90,28 +117,17 @@ module _ (s : Sizes) (lim : limits s ≡ true) where
       let said : step_sized s (fresh s) ≡ (refused 9, fresh s) = rw (fresh_serves s.levels (omega arith)) refl in
       ap (λ (x : Tried). x.0) (stepped_is s (fresh s) fresh_table_holds (fresh s) (refused 9) said)
 
--- the table of the greatest sizes has 2,276 words
-pub words_fit : (s : Sizes) → limits s ≡ true → words s ≤ 2276
-unfolding limits
-words_fit s h =
-    let a = (and-eq-true_iff (within 1 16 s.levels && within 1 8 s.queues) (within s.queues 1024 s.nodes)).0 h in
-    let b = (and-eq-true_iff (within 1 16 s.levels) (within 1 8 s.queues)).0 a.0 in
-    let x = within_high 1 16 s.levels b.0 in
-    let y = within_high 1 8 s.queues b.1 in
-    let z = within_high s.queues 1024 s.nodes a.1 in
-    omega arith
-
 -- ---- all of them
 
 module _ (a : Asked) (ws room ts : List ℕ) where
-  pub list_none : (t path : List ℕ) (x : Tail) (out : State) → a.operations ≡ 0 → t ≡ fresh (sizes_of a) → end_in most_moves 0 t ≡ x
+  pub list_none : (t path : List ℕ) (x : Option ℕ) (out : State) → a.operations ≡ 0 → t ≡ fresh (sizes_of a) → end_in most_moves 0 t ≡ x
       → tailed a ws (take a.operations path) x (none, (room, ts)) ≡ out → listed_of a ws room ts ≡ out
   unfolding listed_of schedules
   list_none t path x out h e f g =
       ap (λ (k : ℕ). listing a ws [] 0 (both most_moves (fresh (sizes_of a)) (ops_in k ws 0)) (none, (room, ts))) h
       ∙ ap (λ (u : List ℕ). listing a ws [] 0 (both most_moves u (ops_in 0 ws 0)) (none, (room, ts))) (sym e)
       ∙ tail_is a ws [] most_moves 0 t (none, (room, ts))
-      ∙ ap (λ (y : Tail). tailed a ws [] y (none, (room, ts))) f
+      ∙ ap (λ (y : Option ℕ). tailed a ws [] y (none, (room, ts))) f
       ∙ ap (λ (k : ℕ). tailed a ws (take k path) x (none, (room, ts))) (sym h)
       ∙ g
 
@@ -127,60 +143,34 @@ module _ (a : Asked) (ws room ts : List ℕ) where
 
 -- ---- by the first refusal
 
-why_zero : (s : Sizes) (k : ℕ) → why s k ≡ 0 → (k ≤ 6) × (limits s ≡ true)
-unfolding why
-why_zero s k e = by (ltb 6 k) refl (ltb 1024 s.nodes) (limits s) refl e
-  where
-    by : (x : Bool) → ltb 6 k ≡ x → (y z : Bool) → limits s ≡ z
-        → ◌≡◌ {A = ℕ} (cond x 14 (cond y 2 (cond z 0 2))) 0 → (k ≤ 6) × (limits s ≡ true)
-    by true f y z g h = absurd (omega arith)
-    by false f true z g h = absurd (omega arith)
-    by false f false true g h = (ltb-false 6 k f, g)
-    by false f false false g h = absurd (omega arith)
+module _ (l q n : ℕ) (ws : List ℕ) where
+  abbrev first_why : ℕ
+  first_why = why (sizes l q n) (length ws / 4)
 
-module _ (l q n k : ℕ) (s : Sizes) (r : ℕ) (sized : s ≡ sizes l q n) (told : r ≡ why s k) where
-  why_is : r ≡ why (sizes l q n) k
-  why_is = told ∙ ap (λ (z : Sizes). why z k) sized
+  module _ (r : Refusal) (is : first_why ≡ number r) where
+    pub try_refused : (bound : ℕ) (room : List ℕ) → tries_of l q n ws bound room ≡ (refused (number r), room)
+    unfolding tries_of
+    try_refused bound room = rw (is, ← numbered r) refl
 
-  module _ (accepted : r ≡ 0) where
-    pub few_so : k ≤ 6
-    few_so = (why_zero s k (sym told ∙ accepted)).0
+    pub number_refused : number_of l q n ws ≡ refused (number r)
+    unfolding number_of
+    number_refused = rw (is, ← numbered r) refl
 
-    pub limits_so : limits (sizes l q n) ≡ true
-    limits_so = (why_zero (sizes l q n) k (sym why_is ∙ accepted)).1
+    pub tallies_refused : (ts : List ℕ) → tallies_of l q n ws ts ≡ ts
+    unfolding tallies_of
+    tallies_refused ts = rw (is, ← numbered r) refl
 
-    pub table_fits : (w : ℕ) → w ≡ words s → w ≤ 2276
-    table_fits w e = omega (arith, e, words_fit s (why_zero s k (sym told ∙ accepted)).1)
+  module _ (none : first_why ≡ 0) where
+    pub try_on : (bound : ℕ) (room : List ℕ) (out : Answer) → listed_in (texts (sizes l q n) (operations ws)) bound room ≡ out
+        → tries_of l q n ws bound room ≡ out
+    unfolding tries_of
+    try_on bound room out e = rw none e
 
-    pub part_is : (w : ℕ) → w ≡ words s → length (take w (replicate {A = ℕ} 2276 0)) ≡ words (sizes l q n)
-    part_is w e = part_length w 2276 (table_fits w e) ∙ e ∙ ap words sized
+    pub number_on : (m : ℕ) → m ≡ length (schedules (sizes l q n) (operations ws)) → number_of l q n ws ≡ says m
+    unfolding number_of
+    number_on m e = rw (none, e) refl
 
-module _ (l q n : ℕ) (ws : List ℕ) (s : Sizes) (r : ℕ) (sized : s ≡ sizes l q n) (told : r ≡ why s (length ws / 4)) where
-  abbrev first_why : r ≡ why (sizes l q n) (length ws / 4)
-  first_why = why_is l q n (length ws / 4) s r sized told
-
-  pub try_refused : (bound : ℕ) (room : List ℕ) → (r ≡ 0 → ⊥) → tries_of l q n ws bound room ≡ (refused r, room)
-  unfolding tries_of
-  try_refused bound room h = rw (← first_why, ne_eqb r 0 h) refl
-
-  pub try_on : (bound : ℕ) (room : List ℕ) (out : Answer) → r ≡ 0 → listed_in (texts (sizes l q n) (operations ws)) bound room ≡ out
-      → tries_of l q n ws bound room ≡ out
-  unfolding tries_of
-  try_on bound room out h e = rw (← first_why, h) e
-
-  pub number_refused : (r ≡ 0 → ⊥) → number_of l q n ws ≡ refused r
-  unfolding number_of
-  number_refused h = rw (← first_why, ne_eqb r 0 h) refl
-
-  pub number_on : (m : ℕ) → r ≡ 0 → m ≡ length (schedules (sizes l q n) (operations ws)) → number_of l q n ws ≡ says m
-  unfolding number_of
-  number_on m h e = rw (← first_why, h, e) refl
-
-  pub tallies_refused : (ts : List ℕ) → (r ≡ 0 → ⊥) → tallies_of l q n ws ts ≡ ts
-  unfolding tallies_of
-  tallies_refused ts h = rw (← first_why, ne_eqb r 0 h) refl
-
-  pub tallies_on : (ts us : List ℕ) → r ≡ 0
-      → us ≡ tallied_all (sizes l q n) ws (length ws / 4) (schedules (sizes l q n) (operations ws)) ts → tallies_of l q n ws ts ≡ us
-  unfolding tallies_of
-  tallies_on ts us h e = rw (← first_why, h, e) refl
+    pub tallies_on : (ts us : List ℕ)
+        → us ≡ tallied_all (sizes l q n) ws (length ws / 4) (schedules (sizes l q n) (operations ws)) ts → tallies_of l q n ws ts ≡ us
+    unfolding tallies_of
+    tallies_on ts us e = rw (none, e) refl

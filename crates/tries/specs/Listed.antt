@@ -1,8 +1,8 @@
 -- What is listed, without the walk: the first texts as far as the bound, and whether there are more.
 use Prim.Native.Nat.{ℕ, zero, suc, ◌+◌, ◌≤◌, ◌<◌}
-use Rattle.std.specs.Prelude.{◌≡◌, Bool, cond, take, leb, ltb, eqb}
+use Rattle.std.specs.Prelude.{◌≡◌, Bool, cond, take, leb, ltb}
 use Rattle.std.proofs.Math.Path.{refl, sym, ap}
-use Rattle.std.proofs.Common.{◌∙◌, zero-add, le-leb, leb-true, leb-false, ltb-true, ltb-false, eq-eqb}
+use Rattle.std.proofs.Common.{◌∙◌, zero-add, le-leb, leb-true, leb-false, ltb-true, ltb-false}
 use Rattle.std.proofs.Math.Bool.{true, false, not}
 use mathlib.Core.List.{List, [], ◌∷◌, ◌++◌, map}
 use native.Mathlib.Omega.{arith}
@@ -16,9 +16,10 @@ use Rattle.ways.specs.Schedules.{Move, schedules}
 use Rattle.entries.specs.Texts.{counts}
 use Rattle.search.specs.declared.Asked.{Asked}
 use Rattle.search.specs.declared.Listed.{Listed}
+use Rattle.search.specs.declared.Stop.TheVariants.{Going, Cut, Full}
 use Rattle.search.specs.declared.What.{What}
 use Rattle.search.specs.declared.What.TheVariants.{Count, Tally, Measure, Write}
-use Rattle.search.specs.Walk.{sizes_of, ops_of, entry_text, State, more, going, cut, full, shut, fits, noted, written, entered}
+use Rattle.search.specs.Walk.{sizes_of, ops_of, entry_text, State, more, is_going, is_full, shut, fits, noted, written, entered}
 use Rattle.search.specs.Walk.{emitted, listing, none, listed_of, asks}
 use Rattle.search.proofs.Emits.{emit_bound, emit_open}
 use Rattle.search.proofs.Laws.{listing_closed}
@@ -36,7 +37,7 @@ abbrev Textual : What → Type 0
 Textual w = (a : Asked) (ws cs : List ℕ) (l : Listed) (room us : List ℕ)
     → (fits (entry_text a ws cs) l room ≡ true
     → entered a ws cs w (l, (room, us)) ≡ (more (length (entry_text a ws cs)) l, (puts w room l.at (entry_text a ws cs), us)))
-    × (fits (entry_text a ws cs) l room ≡ false → entered a ws cs w (l, (room, us)) ≡ (shut full l, (room, us)))
+    × (fits (entry_text a ws cs) l room ≡ false → entered a ws cs w (l, (room, us)) ≡ (shut Full l, (room, us)))
 
 measures : Textual Measure
 unfolding entered noted puts
@@ -69,7 +70,7 @@ puts_on Write room p x y = sym (sets_append room p x y)
 
 -- so many listed, so many bytes, and whether there are more
 abbrev so : ℕ → ℕ → Bool → Listed
-so c p more = record { count = c; at = p; stop = cond more cut going }
+so c p more = record { count = c; at = p; stop = cond more Cut Going }
 
 module _ (a : Asked) (ws us : List ℕ) (textual : Textual a.what) where
   abbrev each : List (List Move) → List (List ℕ)
@@ -126,7 +127,7 @@ module _ (a : Asked) (ws us : List ℕ) (textual : Textual a.what) where
       ∙ (textual a ws cs (so c p false) room us).0 (le-leb (p + length (entry_text a ws cs)) (length room) h)
 
   emit_full : (cs : List ℕ) (m c p : ℕ) (room : List ℕ) → a.bound ≡ c + suc m → length room < p + length (entry_text a ws cs)
-      → emitted a ws cs (so c p false, (room, us)) ≡ (shut full (so c p false), (room, us))
+      → emitted a ws cs (so c p false, (room, us)) ≡ (shut Full (so c p false), (room, us))
   emit_full cs m c p room e h =
       emit_open a ws cs (so c p false, (room, us)) refl (omega arith)
       ∙ (textual a ws cs (so c p false) room us).1 (lt-leb (p + length (entry_text a ws cs)) (length room) h)
@@ -139,7 +140,7 @@ module _ (a : Asked) (ws us : List ℕ) (textual : Textual a.what) where
   listing_is [] m c p room e h = is_none m c p room
   listing_is (x ∷ xs) zero c p room e h =
       ap (listing a ws [] 0 xs) (emit_bound a ws (counts 0 x) (so c p false) (so c p true) (room, us) refl (omega arith) refl)
-      ∙ listing_closed a ws [] 0 xs (so c p true, (room, us)) (λ z. omega arith)
+      ∙ listing_closed a ws [] 0 xs (so c p true, (room, us)) refl
       ∙ cut_is (entry_text a ws (counts 0 x)) (each xs) c p room
   listing_is (x ∷ xs) (suc m) c p room e h =
       let t : List ℕ = entry_text a ws (counts 0 x) in
@@ -151,7 +152,7 @@ module _ (a : Asked) (ws us : List ℕ) (textual : Textual a.what) where
 
   -- where the first m do not fit, it is full
   listing_full : (mss : List (List Move)) (m c p : ℕ) (room : List ℕ) → a.bound ≡ c + m → p ≤ length room
-      → length room < p + length (joined (take m (each mss))) → (listing a ws [] 0 mss (so c p false, (room, us))).0.stop ≡ full
+      → length room < p + length (joined (take m (each mss))) → (listing a ws [] 0 mss (so c p false, (room, us))).0.stop ≡ Full
   unfolding listing joined
   listing_full [] zero c p room e q h = absurd (omega arith)
   listing_full [] (suc m) c p room e q h = absurd (omega arith)
@@ -165,8 +166,8 @@ module _ (a : Asked) (ws us : List ℕ) (textual : Textual a.what) where
 
       by : (b : Bool) → leb (p + length t) (length room) ≡ b
           → (p + length t ≤ length (put room p t) → length (put room p t) < p + length t + length (joined (take m (each xs)))
-          → (listing a ws [] 0 xs (so (c + 1) (p + length t) false, (put room p t, us))).0.stop ≡ full)
-          → (listing a ws [] 0 xs (emitted a ws (counts 0 x) (so c p false, (room, us)))).0.stop ≡ full
+          → (listing a ws [] 0 xs (so (c + 1) (p + length t) false, (put room p t, us))).0.stop ≡ Full)
+          → (listing a ws [] 0 xs (emitted a ws (counts 0 x) (so c p false, (room, us)))).0.stop ≡ Full
       by true z ih =
           let k = leb-true (p + length t) (length room) z in
           let l = length-append t (joined (take m (each xs))) in
@@ -176,7 +177,7 @@ module _ (a : Asked) (ws us : List ℕ) (textual : Textual a.what) where
       by false z ih =
           let k = leb-false (p + length t) (length room) z in
           ap (λ (s : State). (listing a ws [] 0 xs s).0.stop) (emit_full (counts 0 x) m c p room e k)
-          ∙ ap (λ (s : State). s.0.stop) (listing_closed a ws [] 0 xs (shut full (so c p false), (room, us)) (λ z. omega arith))
+          ∙ ap (λ (s : State). s.0.stop) (listing_closed a ws [] 0 xs (shut Full (so c p false), (room, us)) refl)
 
 -- ---- the answer
 
@@ -201,11 +202,11 @@ module _ (a : Asked) (ws : List ℕ) where
   refused_so room h = rw h refl
 
 -- the tests of how it stops
-never_full : (more : Bool) → eqb (cond more cut going) full ≡ false
+never_full : (more : Bool) → is_full (cond more Cut Going) ≡ false
 never_full true = refl
 never_full false = refl
 
-told_more : (more : Bool) → not (eqb (cond more cut going) going) ≡ more
+told_more : (more : Bool) → not (is_going (cond more Cut Going)) ≡ more
 told_more true = refl
 told_more false = refl
 
@@ -226,7 +227,7 @@ module _ (a : Asked) (ws room us : List ℕ) where
       ∙ ap (λ (i : ℕ). (so i (0 + length (joined first)) (more_than m (all a ws)), out)) (zero-add (length first))
       ∙ ap (λ (i : ℕ). (so (length first) i (more_than m (all a ws)), out)) (zero-add (length (joined first)))
 
-  list_full : (w : What) → Textual w → length room < length (joined first) → (listed_of (asks w a) ws room us).0.stop ≡ full
+  list_full : (w : What) → Textual w → length room < length (joined first) → (listed_of (asks w a) ws room us).0.stop ≡ Full
   unfolding listed_of entry_text
   list_full w textual h =
       let m : ℕ = a.bound in
@@ -236,10 +237,10 @@ module _ (a : Asked) (ws room us : List ℕ) where
   -- measuring leaves the room and the tallies
   kept : (cs : List ℕ) (st : State) → (emitted (asks Measure a) ws cs st).1 ≡ st.1
   unfolding emitted entered
-  kept cs st = by (eqb st.0.stop going) (leb a.bound st.0.count)
+  kept cs st = by (is_going st.0.stop) (leb a.bound st.0.count)
     where
       by : (x y : Bool)
-          → (cond {A = State} x (cond {A = State} y (shut cut st.0, st.1) (entered (asks Measure a) ws cs Measure st)) st).1
+          → (cond {A = State} x (cond {A = State} y (shut Cut st.0, st.1) (entered (asks Measure a) ws cs Measure st)) st).1
           ≡ st.1
       by false y = refl
       by true true = refl
@@ -258,13 +259,13 @@ module _ (a : Asked) (ws room us : List ℕ) where
     pub unwritten : after ≡ room
     unwritten = ap (λ (x : List ℕ × List ℕ). x.0) (sym (ap (λ (st : State). st.1) e) ∙ measured_keeps)
 
-    pub measured_short : eqb m.stop full ≡ short a ws room
-    measured_short = sym (ap (λ (st : State). eqb st.0.stop full) e) ∙ by (short a ws room) refl
+    pub measured_short : is_full m.stop ≡ short a ws room
+    measured_short = sym (ap (λ (st : State). is_full st.0.stop) e) ∙ by (short a ws room) refl
       where
-        by : (b : Bool) → short a ws room ≡ b → eqb (listed_of (asks Measure a) ws room us).0.stop full ≡ b
-        by true y = eq-eqb _ full (list_full Measure measures (ltb-true _ _ y))
+        by : (b : Bool) → short a ws room ≡ b → is_full (listed_of (asks Measure a) ws room us).0.stop ≡ b
+        by true y = ap is_full (list_full Measure measures (ltb-true _ _ y))
         by false y =
-            ap (λ (st : State). eqb st.0.stop full) (list_fits Measure measures (ltb-false _ _ y))
+            ap (λ (st : State). is_full st.0.stop) (list_fits Measure measures (ltb-false _ _ y))
             ∙ never_full (more_than a.bound (all a ws))
 
   module _ (l : Listed) (out ts : List ℕ) (h : short a ws room ≡ false) (f : listed_of (asks Write a) ws room us ≡ (l, (out, ts))) where
@@ -277,9 +278,8 @@ module _ (a : Asked) (ws room us : List ℕ) where
         let c : l.count ≡ length first = ap (λ (st : State). st.0.count) written_is in
         omega (arith, c, length_take_low a.bound (all a ws))
 
-    pub written_so : (b : Bool) → eqb l.stop going ≡ b → listed_in (all a ws) a.bound room ≡ (says (l.count, (l.at, not b)), out)
+    pub written_so : listed_in (all a ws) a.bound room ≡ (says (l.count, (l.at, not (is_going l.stop))), out)
     unfolding listed_in
-    written_so b k =
-        let answer : State → Answer = λ st. (says (st.0.count, (st.0.at, not (eqb st.0.stop going))), st.1.0) in
-        rw (h, ← told_more (more_than a.bound (all a ws)))
-        (sym (ap answer written_is) ∙ ap (λ (x : Bool). (says (l.count, (l.at, not x)), out)) k)
+    written_so =
+        let answer : State → Answer = λ st. (says (st.0.count, (st.0.at, not (is_going st.0.stop))), st.1.0) in
+        rw (h, ← told_more (more_than a.bound (all a ws))) (sym (ap answer written_is))

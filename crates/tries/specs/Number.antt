@@ -16,7 +16,7 @@ use Rattle.search.specs.declared.Listed.{Listed}
 use Rattle.search.specs.declared.What.{What}
 use Rattle.search.specs.declared.What.TheVariants.{Count, Tally, Measure, Write}
 use Rattle.search.proofs.Emits.{ops_length, emit_open}
-use Rattle.search.specs.Walk.{sizes_of, ops_of, State, more, going, entered, emitted, listing, none, listed_of}
+use Rattle.search.specs.Walk.{sizes_of, ops_of, State, more, is_going, entered, emitted, listing, none, listed_of}
 use Rattle.tries.specs.Tries.{tallied_all}
 
 -- ---- a bound: with r operations and fewer than n moves there are at most n to the power of r
@@ -119,18 +119,18 @@ module _ (a : Asked) (ws : List ℕ) where
   unfolding entered
   entered_tallies cs w st e = rw e refl
 
-  tally_one : (cs : List ℕ) (st : State) → a.what ≡ Tally → st.0.stop ≡ going → st.0.count < a.bound
+  tally_one : (cs : List ℕ) (st : State) → a.what ≡ Tally → is_going st.0.stop ≡ true → st.0.count < a.bound
       → (emitted a ws cs st).1.1 ≡ tallied (sizes_of a) ws a.operations cs st.1.1
   tally_one cs st w h k = ap (λ (x : State). x.1.1) (emit_open a ws cs st h k) ∙ entered_tallies cs a.what st w
 
   module _ (counting : Counts a.what) where
-    count_one : (cs : List ℕ) (st : State) → st.0.stop ≡ going → st.0.count < a.bound
-        → ((emitted a ws cs st).0.count ≡ st.0.count + 1) × ((emitted a ws cs st).0.stop ≡ going)
+    count_one : (cs : List ℕ) (st : State) → is_going st.0.stop ≡ true → st.0.count < a.bound
+        → ((emitted a ws cs st).0.count ≡ st.0.count + 1) × (is_going (emitted a ws cs st).0.stop ≡ true)
     count_one cs st h k =
         let one = ap (λ (x : State). x.0) (emit_open a ws cs st h k) ∙ entered_counts cs a.what st counting in
-        (ap (λ (l : Listed). l.count) one, ap (λ (l : Listed). l.stop) one ∙ h)
+        (ap (λ (l : Listed). l.count) one, ap (λ (l : Listed). is_going l.stop) one ∙ h)
 
-    count_is : (mss : List (List Move)) (st : State) → st.0.stop ≡ going → st.0.count + length mss ≤ a.bound
+    count_is : (mss : List (List Move)) (st : State) → is_going st.0.stop ≡ true → st.0.count + length mss ≤ a.bound
         → (listing a ws [] 0 mss st).0.count ≡ st.0.count + length mss
     unfolding listing
     count_is [] st h k = omega arith
@@ -139,7 +139,7 @@ module _ (a : Asked) (ws : List ℕ) where
         let others = count_is mss (emitted a ws (counts 0 ms) st) one.1 (omega (arith, k, one.0)) in
         omega (arith, others, one.0)
 
-    tallies_are : (mss : List (List Move)) (st : State) → a.what ≡ Tally → st.0.stop ≡ going → st.0.count + length mss ≤ a.bound
+    tallies_are : (mss : List (List Move)) (st : State) → a.what ≡ Tally → is_going st.0.stop ≡ true → st.0.count + length mss ≤ a.bound
         → (listing a ws [] 0 mss st).1.1 ≡ tallied_all (sizes_of a) ws a.operations mss st.1.1
     unfolding listing tallied_all
     tallies_are [] st w h k = refl

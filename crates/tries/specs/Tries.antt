@@ -1,17 +1,15 @@
 -- What trying answers, and the room or the tallies afterwards.
-use Rattle.std.specs.Prelude.{ℕ, zero, suc, ◌/◌, Bool, true, false, cond, List, [], ◌∷◌, ◌++◌, map, length, take, ltb, eqb}
+use Rattle.std.specs.Prelude.{ℕ, zero, suc, ◌/◌, Bool, true, false, cond, List, [], ◌∷◌, ◌++◌, map, length, take, ltb, eqb, Result, Ok, Err}
 use Rattle.std.proofs.lemmas.List.Edits.{sets}
 use Rattle.words.specs.declared.Sizes.{Sizes}
 use Rattle.words.specs.Layout.{limits}
-use Rattle.answers.specs.Said.{Said, refused, says}
+use Rattle.answers.specs.declared.Refusal.{Refusal}
+use Rattle.answers.specs.Said.{Said, refused, says, number, answer_says}
 use Rattle.ways.specs.declared.Op.{Op}
 use Rattle.ways.specs.Schedules.{Move, ops_in, schedules}
 use Rattle.entries.specs.Texts.{counts, schedule_text}
 use Rattle.outcomes.specs.Tallies.{tallied}
 use Rattle.tries.specs.declared.Tried.{Tried}
-use Rattle.tries.specs.declared.Tried.TheVariants.{All, More, Refused}
-use Rattle.tries.specs.declared.Number.{Number}
-use Rattle.tries.specs.declared.Number.TheVariants as number
 
 abbrev pub sizes : ℕ → ℕ → ℕ → Sizes
 sizes l q n = record { levels = l; queues = q; nodes = n }
@@ -44,10 +42,9 @@ why s operations = cond (ltb 6 operations) 14 (cond (ltb 1024 s.nodes) 2 (cond (
 abbrev pub Answer : Type 0
 Answer = Said (ℕ × (ℕ × Bool)) × List ℕ
 
-abbrev pub tried_says : Tried → Said (ℕ × (ℕ × Bool))
-tried_says (All n bytes) = says (n, (bytes, false))
-tried_says (More n bytes) = says (n, (bytes, true))
-tried_says (Refused r) = refused r
+abbrev pub tried_says : Result Tried Refusal → Said (ℕ × (ℕ × Bool))
+tried_says (Ok x) = says (x.count, (x.bytes, x.more))
+tried_says (Err r) = refused (number r)
 
 -- the first texts as far as the bound, one after another; 12 where the room is too small for them
 unfoldable pub listed_in : List (List ℕ) → ℕ → List ℕ → Answer
@@ -62,9 +59,8 @@ tries_of l q n ws bound room =
 
 -- ---- their number
 
-abbrev pub number_says : Number → Said ℕ
-number_says (number.Is n) = says n
-number_says (number.Refused r) = refused r
+abbrev pub number_says : Result ℕ Refusal → Said ℕ
+number_says = answer_says
 
 unfoldable pub number_of : ℕ → ℕ → ℕ → List ℕ → Said ℕ
 number_of l q n ws =

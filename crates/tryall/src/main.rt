@@ -1,50 +1,50 @@
 #![tactic(auto)]
 // The program tries: every schedule of the task on standard input, or how many there are and their outcomes.
-use trying::Asked;
+ghost use Rattle.std.specs.Prelude.{◌≤◌};
+
+use trying::{Asked, NoRoom};
 
 // 20,000 times tries::LONGEST: so many texts are listed in it without being measured first.
 const ROOM: usize = 4040000;
 
 const LARGE_ROOM: usize = 16777216;
 
-fn print_in(rt: &HostRuntime, text: &[u8], bound: u32, room: &mut [u8; ROOM]) -> bool {
-    trying::print_schedules(rt, text, bound, room)
-}
+const OUTCOMES_ROOM: usize = outcomes::LINES;
 
-fn print_in_large(rt: &HostRuntime, text: &[u8], bound: u32, room: &mut [u8; LARGE_ROOM]) -> bool {
-    trying::print_schedules(rt, text, bound, room)
-}
-
-fn list(rt: &HostRuntime, text: &[u8], bound: u32) {
-    let mut room = [0u8; ROOM];
-    if !print_in(rt, text, bound, &mut room) {
-        list_many(rt, text, bound);
-    }
-}
-
-// In the larger room, which is not laid into main: for the other a stack of 8 MB is enough.
+// Prints the answer from so much room, which is not laid into main: in all but the large one a stack of 8 MB is enough.
 #[inline(never)]
-fn list_many(rt: &HostRuntime, text: &[u8], bound: u32) {
-    let mut room = [0u8; LARGE_ROOM];
-    if !print_in_large(rt, text, bound, &mut room) {
-        streams::say(
-            rt,
-            b"bench: so many schedules do not fit the room; -n with a smaller number lists fewer\n",
-        );
+fn print_from<const N: usize>(rt: &HostRuntime, text: &[u8], asked: Asked) -> Result<(), NoRoom>
+    requires { N ≤ 16777216 }
+{
+    let mut room = [0u8; N];
+    trying::print_answer(rt, text, asked, &mut room)
+}
+
+// So many texts as need no more than the small room are not tried in the large one first.
+fn list(rt: &HostRuntime, text: &[u8], bound: u32) -> Result<(), NoRoom> {
+    let asked = Asked::Schedules(bound);
+    if bound <= 20000 && print_from::<ROOM>(rt, text, asked).is_ok() {
+        return Ok(());
     }
+    print_from::<LARGE_ROOM>(rt, text, asked)
 }
 
 fn answer(rt: &HostRuntime, text: &[u8]) {
     match trying::read_arguments(rt) {
-        Asked::Schedules(bound) => {
-            if bound <= 20000 {
-                list(rt, text, bound);
-            } else {
-                list_many(rt, text, bound);
+        Some(Asked::Schedules(bound)) => {
+            if list(rt, text, bound).is_err() {
+                streams::say(
+                    rt,
+                    b"bench: so many schedules do not fit the room; -n with a smaller number lists fewer\n",
+                );
             }
         }
-        Asked::Outcomes => trying::print_outcomes(rt, text),
-        Asked::Unknown => streams::say(rt, b"bench: tries takes -n and a number, or -c\n"),
+        Some(Asked::Outcomes) => {
+            if print_from::<OUTCOMES_ROOM>(rt, text, Asked::Outcomes).is_err() {
+                streams::say(rt, b"bench: the outcomes do not fit the room\n");
+            }
+        }
+        None => streams::say(rt, b"bench: tries takes -n and a number, or -c\n"),
     }
 }
 

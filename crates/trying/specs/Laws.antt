@@ -1,24 +1,24 @@
 -- What the proofs cite.
-use Rattle.std.specs.Prelude.{ℕ, ◌+◌, ◌*◌, ◌/◌, ◌≤◌, ◌<◌, ◌≡◌, refl, Bool, true, false, Option, Some, None, cond, List, [], ◌∷◌, length, take, drop, set, get_or, replicate, ltb, eqb}
+use Rattle.std.specs.Prelude.{ℕ, ◌+◌, ◌*◌, ◌/◌, ◌≤◌, ◌<◌, ◌≡◌, refl, Bool, true, false, Option, Some, None, Result, Ok, Err, cond, List, [], ◌∷◌, length, take, drop, set, get_or, replicate, ltb, eqb}
 use Rattle.std.proofs.Common.{sym, ◌∙◌, arith, add-one, length-set, drop_of_length-le, drop-cons, ltb-true, ltb-false, eq-eqb, ne_eqb}
 use Rattle.std.proofs.Math.Path.{ap}
 use Rattle.std.proofs.lemmas.List.Edits.{sets}
 use Rattle.std.proofs.Math.Seq.{length-sets}
+use Rattle.std.specs.Result.{result_ok}
 use Rattle.answers.specs.Said.{Said, refused, says}
 use Rattle.text.specs.declared.Opening.{Opening}
 use Rattle.text.specs.declared.Event.{Event}
 use Rattle.text.specs.Answer as answer
 use Rattle.loglines.specs.Ink.{Page, ink_one, ink}
 use Rattle.loglines.specs.Lines.{text_line, refusal_line}
-use Rattle.outcomes.specs.declared.Written.{Written}
-use Rattle.outcomes.specs.declared.Written.TheVariants.{Bytes, Refused}
+use Rattle.answers.specs.declared.Refusal.{Refusal}
 use Rattle.outcomes.specs.Lines.{written_of, put_lines, counted_text}
 use Rattle.tasks.specs.Tasks as task
 use Rattle.tasks.specs.Tasks.{task_reading, task_of, all_words}
 use Rattle.tasks.specs.Laws.{task_read}
 use Rattle.tries.specs.Tries.{why, sizes, operations, texts, joined, more_than, listed_in, tries_of, tally_of}
-use Rattle.trying.specs.declared.Bound.{Bound}
-use Rattle.trying.specs.declared.Bound.TheVariants.{Is, Wrong}
+use Rattle.trying.specs.declared.Asked.{Asked}
+use Rattle.trying.specs.declared.Asked.TheVariants.{Schedules, Outcomes}
 use Rattle.trying.specs.Bounds.{digit_on, go_on, number_from, bound_in}
 use Rattle.trying.specs.Trying.{
   Told,
@@ -33,12 +33,14 @@ use Rattle.trying.specs.Trying.{
   number_told,
   count_told,
   outcomes_told,
+  asked_of,
+  asked_told,
 }
 use Rattle.trying.specs.InRoom.{InRoom}
 
 -- ---- the bound
 
-pub bound_none : (bs : List ℕ) → length bs ≡ 0 → bound_in bs ≡ Wrong
+pub bound_none : (bs : List ℕ) → length bs ≡ 0 → bound_in bs ≡ None
 unfolding bound_in
 bound_none [] h = refl
 bound_none (b ∷ bs) h = absurd (omega arith)
@@ -48,20 +50,24 @@ unfolding bound_in
 bound_some [] h = absurd (h refl)
 bound_some (b ∷ bs) h = refl
 
-pub number_more : (n i : ℕ) (bs : List ℕ) (r : Bound) → i < length bs → r ≡ digit_on n (get_or bs i 0)
+pub number_more : (n i : ℕ) (bs : List ℕ) (r : Option ℕ) → i < length bs → r ≡ digit_on n (get_or bs i 0)
     → number_from n (drop i bs) ≡ go_on r (λ m. number_from m (drop (i + 1) bs))
 unfolding number_from
 number_more n i bs r h e = rw (drop-cons bs i 0 h, sym e, add-one)
 
-pub number_all : (n i : ℕ) (bs : List ℕ) → length bs ≤ i → number_from n (drop i bs) ≡ Is n
+pub number_all : (n i : ℕ) (bs : List ℕ) → length bs ≤ i → number_from n (drop i bs) ≡ Some n
 unfolding number_from
 number_all n i bs h = rw (drop_of_length-le bs {i = i} h)
 
 -- ---- what is told
 
-abbrev pub written_says : Written → Said (ℕ × Bool)
-written_says (Bytes n) = says (n, false)
-written_says (Refused r) = refused 12
+abbrev pub written_says : Result ℕ Refusal → Said (ℕ × Bool)
+written_says (Ok n) = says (n, false)
+written_says (Err r) = refused 12
+
+pub ok_says : (w : Result ℕ Refusal) → pen_says (result_ok w) ≡ written_says w
+ok_says (Ok n) = refl
+ok_says (Err r) = refl
 
 pub laid_is : {pen : Option ℕ} {after : List ℕ} {said : Said (ℕ × Bool)} (line room : List ℕ) → ink (Some 0, room) line ≡ (pen, after)
     → said ≡ pen_says pen → laid line room ≡ (said, after)
@@ -127,20 +133,20 @@ refused_told_holds told text ops after room number x e f = rw (task_wrong text o
 
 -- ---- the outcomes
 
-lines_laid : (room text after : List ℕ) (w : Written) → put_lines room text ≡ (w, after) → laid text room ≡ (written_says w, after)
+lines_laid : (room text after : List ℕ) (w : Result ℕ Refusal) → put_lines room text ≡ (w, after) → laid text room ≡ (written_says w, after)
 unfolding put_lines laid
 lines_laid room text after w e = by (ink (Some 0, room) text) e
   where
-    by : (x : Page) → ◌≡◌ {A = Written × List ℕ} (written_of x.0, x.1) (w, after)
+    by : (x : Page) → ◌≡◌ {A = Result ℕ Refusal × List ℕ} (written_of x.0, x.1) (w, after)
         → ◌≡◌ {A = Told} (pen_says x.0, x.1) (written_says w, after)
-    by (Some n, r) f = ap (λ (u : Written × List ℕ). (written_says u.0, u.1)) f
-    by (None, r) f = ap (λ (u : Written × List ℕ). (written_says u.0, u.1)) f
+    by (Some n, r) f = ap (λ (u : Result ℕ Refusal × List ℕ). (written_says u.0, u.1)) f
+    by (None, r) f = ap (λ (u : Result ℕ Refusal × List ℕ). (written_says u.0, u.1)) f
 
 module _ (o : Opening) (ws ts room after : List ℕ) where
   abbrev tally : Said ℕ × List ℕ
   tally = tally_of o.levels o.queues o.nodes ws (replicate 5122 0)
 
-  pub count_lines : (n : ℕ) (w : Written) → tally ≡ (says n, ts) → put_lines room (counted_text n ts o.queues) ≡ (w, after)
+  pub count_lines : (n : ℕ) (w : Result ℕ Refusal) → tally ≡ (says n, ts) → put_lines room (counted_text n ts o.queues) ≡ (w, after)
       → count_told room o ws ≡ (written_says w, after)
   unfolding number_told
   count_lines n w e f = ap (number_told o.queues room) e ∙ lines_laid room (counted_text n ts o.queues) after w f
@@ -246,3 +252,12 @@ schedules_within text bound room e =
 pub outcomes_within : {said : Said (ℕ × Bool)} {after : List ℕ} (text room : List ℕ) → outcomes_told text room ≡ (said, after)
     → InRoom said (length after)
 outcomes_within text room e = rw e at (task_in (count_told room) (count_in room) text room)
+
+asked_in : (asked : Asked) (room : List ℕ) (o : Opening) (ws : List ℕ)
+    → InRoom (asked_of asked room o ws).0 (length (asked_of asked room o ws).1)
+asked_in (Schedules bound) room o ws = tries_in o.levels o.queues o.nodes ws bound room
+asked_in Outcomes room o ws = count_in room o ws
+
+pub asked_within : {said : Said (ℕ × Bool)} {after : List ℕ} (asked : Asked) (text room : List ℕ) → asked_told asked text room ≡ (said, after)
+    → InRoom said (length after)
+asked_within asked text room e = rw e at (task_in (asked_of asked room) (asked_in asked room) text room)

@@ -1,6 +1,6 @@
 -- What is printed for a task's text: the texts of its schedules one after another, or their number and their outcomes; or one line that
 -- says why there are none.
-use Rattle.std.specs.Prelude.{ℕ, Bool, true, false, Option, Some, None, cond, List, [], ◌∷◌, replicate, eqb}
+use Rattle.std.specs.Prelude.{ℕ, Bool, false, Option, Some, None, Result, Ok, Err, cond, List, [], ◌∷◌, replicate, eqb}
 use Rattle.answers.specs.Said.{Said, refused, says}
 use Rattle.text.specs.declared.Opening.{Opening}
 use Rattle.text.specs.declared.Event.{Event}
@@ -11,16 +11,17 @@ use Rattle.tasks.specs.Tasks.{task_reading, all_words}
 use Rattle.outcomes.specs.Lines.{counted_text}
 use Rattle.tries.specs.Tries.{tries_of, tally_of}
 use Rattle.trying.specs.declared.Answer.{Answer}
-use Rattle.trying.specs.declared.Answer.TheVariants.{Whole, First, NoRoom}
+use Rattle.trying.specs.declared.Asked.{Asked}
+use Rattle.trying.specs.declared.Asked.TheVariants.{Schedules, Outcomes}
+use Rattle.trying.specs.declared.NoRoom.{NoRoom}
 
 -- how many bytes at the room's start are the answer, and whether there are more schedules than these; 12 where the room is too small
 abbrev pub Told : Type 0
 Told = Said (ℕ × Bool) × List ℕ
 
-abbrev pub answer_says : Answer → Said (ℕ × Bool)
-answer_says (Whole n) = says (n, false)
-answer_says (First n) = says (n, true)
-answer_says NoRoom = refused 12
+abbrev pub answer_says : Result Answer NoRoom → Said (ℕ × Bool)
+answer_says (Ok a) = says (a.bytes, a.more)
+answer_says (Err e) = refused 12
 
 -- ---- bytes at the room's start
 
@@ -67,3 +68,12 @@ count_told room o ws = number_told o.queues room (tally_of o.levels o.queues o.n
 
 abbrev pub outcomes_told : List ℕ → List ℕ → Told
 outcomes_told text room = task_told (count_told room) text room
+
+-- ---- either, as it is asked
+
+abbrev pub asked_of : Asked → List ℕ → Opening → List ℕ → Told
+asked_of (Schedules bound) room = list_told bound room
+asked_of Outcomes room = count_told room
+
+abbrev pub asked_told : Asked → List ℕ → List ℕ → Told
+asked_told asked text room = task_told (asked_of asked room) text room

@@ -1,6 +1,7 @@
 #![tactic(auto)]
 // What the program tries does: it reads a task, and prints its schedules, or how many there are and their outcomes.
 ghost use Rattle.std.specs.Prelude.{◌≡◌, Some};
+ghost use Rattle.answers.specs.Said.{number};
 ghost use Rattle.loglines.specs.Ink.{ink};
 ghost use Rattle.loglines.specs.Lines.{text_line, refusal_line};
 ghost use Rattle.trying.specs.Trying.{
@@ -9,41 +10,34 @@ ghost use Rattle.trying.specs.Trying.{
   laid,
   refused_told,
   list_told,
-  schedules_told,
   count_told,
-  outcomes_told,
+  asked_told,
 };
 ghost use Rattle.trying.specs.Bounds.{digit_on, bound_in};
 
+use answers::Refusal;
 use loglines::Pen;
-use outcomes::Written;
 use std::env::{Env, FillError};
 use tasks::TaskError;
 use text::Opening;
-use tries::{Number, Tried};
 
-// What is asked for: the schedules, so many at most; the outcomes; or nothing that is known.
-#[derive(Clone, Copy)]
+// What is asked for: the schedules, so many at most; or the outcomes.
+#[derive(Clone, Copy, Debug, PartialEq, Eq)]
 pub enum Asked {
     Schedules(u32),
     Outcomes,
-    Unknown,
 }
 
-// A number of 32 bits, or bytes that are none.
-#[derive(Clone, Copy)]
-pub enum Bound {
-    Is(u32),
-    Wrong,
+// How many bytes at the room's start are the answer, and whether there are more schedules than these.
+#[derive(Clone, Copy, Debug, PartialEq, Eq)]
+pub struct Answer {
+    pub bytes: usize,
+    pub more: bool,
 }
 
-// The bytes of the answer; the same where there are more schedules than these; or that the room is too small for them.
-#[derive(Clone, Copy)]
-pub enum Answer {
-    Whole(usize),
-    First(usize),
-    NoRoom,
-}
+// The room is too small for the answer.
+#[derive(Clone, Copy, Debug, PartialEq, Eq)]
+pub struct NoRoom;
 
 // So many are listed where no number is given.
 const BOUND: u32 = 20000;
@@ -51,77 +45,56 @@ const BOUND: u32 = 20000;
 // ---- the arguments
 
 // One digit more, if it is one and the number stays within 32 bits.
-fn add_digit(n: u32, b: u8) -> Bound
+#[tactic(auto, unfolding(crate::specs::Bounds::digit_on))]
+fn add_digit(n: u32, b: u8) -> Option<u32>
     ensures { result ≡ digit_on n b }
 {
-    if b < 48 {
-        return Bound::Wrong;
+    if !b.is_ascii_digit() {
+        return None;
     }
-    if 57 < b {
-        return Bound::Wrong;
-    }
-    let more = 10 * (n as u64) + (b - 48) as u64;
-    if more <= 4294967295 {
-        Bound::Is(more as u32)
-    } else {
-        Bound::Wrong
-    }
+    n.checked_mul(10)?.checked_add(u32::from(b - b'0'))
 }
 
 // The number that these digits are.
-fn read_bound(digits: &[u8]) -> Bound
+fn read_bound(digits: &[u8]) -> Option<u32>
     ensures { result ≡ bound_in digits.now }
 {
-    if digits.len() == 0 {
-        return Bound::Wrong;
+    if digits.is_empty() {
+        return None;
     }
-    let mut n: u32 = 0;
-    let mut i = 0;
-    while i < digits.len() {
-        match add_digit(n, digits[i]) {
-            Bound::Is(more) => {
-                n = more;
-                i += 1;
-            }
-            Bound::Wrong => {
-                return Bound::Wrong;
-            }
-        }
+    let mut n = 0;
+    for b in digits {
+        n = add_digit(n, *b)?;
     }
-    Bound::Is(n)
+    Some(n)
 }
 
 // What the program's arguments ask for: none, `-n B` or `-c`.
-pub fn read_arguments(rt: &impl Env) -> Asked {
+pub fn read_arguments(rt: &impl Env) -> Option<Asked> {
     let mut word = [0u8; 16];
     let n = match rt.arg(1, &mut word) {
         Ok(n) => n,
-        Err(FillError::NotPresent) => return Asked::Schedules(BOUND),
-        Err(FillError::TooLong) => return Asked::Unknown,
+        Err(FillError::NotPresent) => return Some(Asked::Schedules(BOUND)),
+        Err(FillError::TooLong) => return None,
     };
-    if heads::stands_at(&word[..n], 0, b"-c") {
-        return Asked::Outcomes;
+    if word[..n].starts_with(b"-c") {
+        return Some(Asked::Outcomes);
     }
-    if heads::stands_at(&word[..n], 0, b"-n") {
-        if let Ok(m) = rt.arg(2, &mut word) {
-            if let Bound::Is(bound) = read_bound(&word[..m]) {
-                return Asked::Schedules(bound);
-            }
-        }
+    if !word[..n].starts_with(b"-n") {
+        return None;
     }
-    Asked::Unknown
+    let m = rt.arg(2, &mut word).ok()?;
+    Some(Asked::Schedules(read_bound(&word[..m])?))
 }
 
 // ---- the answer, in lent room
 
 // How many bytes are written, if the room reached.
-fn answer_of(written: Option<usize>) -> Answer
+fn whole(written: Option<usize>) -> Result<Answer, NoRoom>
     ensures { answer_says result ≡ pen_says written }
 {
-    match written {
-        Some(n) => Answer::Whole(n),
-        None => Answer::NoRoom,
-    }
+    let bytes = written.ok_or(NoRoom)?;
+    Ok(Answer { bytes, more: false })
 }
 
 fn write_wrong(line: usize, room: &mut [u8]) -> Option<usize>
@@ -133,110 +106,85 @@ fn write_wrong(line: usize, room: &mut [u8]) -> Option<usize>
 }
 
 // `T line`
-fn tell_wrong(line: usize, room: &mut [u8]) -> Answer
+fn tell_wrong(line: usize, room: &mut [u8]) -> Result<Answer, NoRoom>
     ensures { laid (text_line line) room.old ≡ (answer_says result, room.new) }
 {
-    answer_of(write_wrong(line, room))
+    whole(write_wrong(line, room))
 }
 
-fn write_refused(number: u16, room: &mut [u8]) -> Option<usize>
-    ensures { ink (Some 0, room.old) (refusal_line 0 number) ≡ (result, room.new) }
+fn write_refused(why: Refusal, room: &mut [u8]) -> Option<usize>
+    ensures { ink (Some 0, room.old) (refusal_line 0 (number why)) ≡ (result, room.new) }
 {
     let mut pen = Pen { room, at: Some(0) };
-    pen.put_refusal(0, number);
+    pen.put_refusal(0, why.into());
     pen.at
 }
 
 // `R 0 number`, but for the room that is too small
-fn tell_refused(number: u16, room: &mut [u8]) -> Answer
-    ensures { refused_told number room.old ≡ (answer_says result, room.new) }
+fn tell_refused(why: Refusal, room: &mut [u8]) -> Result<Answer, NoRoom>
+    ensures { refused_told (number why) room.old ≡ (answer_says result, room.new) }
 {
-    if number == 12 {
-        return Answer::NoRoom;
+    match why {
+        Refusal::Room => Err(NoRoom),
+        _ => whole(write_refused(why, room)),
     }
-    answer_of(write_refused(number, room))
 }
 
-fn list_schedules(o: Opening, ops: &[u16], bound: u32, room: &mut [u8]) -> Answer
+fn list_schedules(o: Opening, ops: &[u16], bound: u32, room: &mut [u8]) -> Result<Answer, NoRoom>
     ensures { list_told bound room.old o ops.now ≡ (answer_says result, room.new) }
 {
     match tries::try_schedules(o.levels, o.queues, o.nodes, ops, bound, room) {
-        Tried::All(_, n) => Answer::Whole(n),
-        Tried::More(_, n) => Answer::First(n),
-        Tried::Refused(r) => tell_refused(r, room),
+        Ok(tried) => Ok(Answer {
+            bytes: tried.bytes,
+            more: tried.more,
+        }),
+        Err(why) => tell_refused(why, room),
     }
 }
 
-// The texts of the task's schedules one after another, at most so many; or the line that says why there are none.
-pub fn write_schedules(text: &[u8], bound: u32, room: &mut [u8]) -> Answer
-    ensures { schedules_told text.now bound room.old ≡ (answer_says result, room.new) }
-{
-    let mut ops = [0u16; 24];
-    match tasks::read_task(text, &mut ops) {
-        Ok(o) => {
-            let n = 4 * words::wide(o.events);
-            list_schedules(o, &ops[..n], bound, room)
-        }
-        Err(TaskError::Line(bad)) => tell_wrong(bad.0, room),
-        Err(TaskError::TooMany) => tell_refused(14, room),
-    }
-}
-
-fn count_schedules(o: Opening, ops: &[u16], room: &mut [u8]) -> Answer
+fn count_schedules(o: Opening, ops: &[u16], room: &mut [u8]) -> Result<Answer, NoRoom>
     ensures { count_told room.old o ops.now ≡ (answer_says result, room.new) }
 {
     let mut tallies = [0u64; outcomes::TALLIES];
     match tries::tally_schedules(o.levels, o.queues, o.nodes, ops, &mut tallies) {
-        Number::Is(n) => match outcomes::write_outcomes(n, &tallies, o.queues, room) {
-            Written::Bytes(m) => Answer::Whole(m),
-            Written::Refused(_) => Answer::NoRoom,
-        },
-        Number::Refused(number) => tell_refused(number, room),
+        Ok(n) => whole(outcomes::write_outcomes(n, &tallies, o.queues, room).ok()),
+        Err(why) => tell_refused(why, room),
     }
 }
 
-// How many schedules the task has, and how many lead to each outcome; or the line that says why there are none.
-pub fn write_outcomes(text: &[u8], room: &mut [u8]) -> Answer
-    ensures { outcomes_told text.now room.old ≡ (answer_says result, room.new) }
+// The texts of the task's schedules one after another, at most so many; or how many schedules it has, and how many lead to each outcome.
+// Where the task has none, the line that says why.
+pub fn write_answer(text: &[u8], asked: Asked, room: &mut [u8]) -> Result<Answer, NoRoom>
+    ensures { asked_told asked text.now room.old ≡ (answer_says result, room.new) }
 {
-    let mut ops = [0u16; 24];
-    match tasks::read_task(text, &mut ops) {
+    let mut words = [0u16; tasks::WORDS];
+    match tasks::read_task(text, &mut words) {
         Ok(o) => {
-            let n = 4 * words::wide(o.events);
-            count_schedules(o, &ops[..n], room)
+            let n = 4 * usize::from(o.events);
+            let ops = &words[..n];
+            match asked {
+                Asked::Schedules(bound) => list_schedules(o, ops, bound, room),
+                Asked::Outcomes => count_schedules(o, ops, room),
+            }
         }
         Err(TaskError::Line(bad)) => tell_wrong(bad.0, room),
-        Err(TaskError::TooMany) => tell_refused(14, room),
+        Err(TaskError::TooMany) => tell_refused(Refusal::Many, room),
     }
 }
 
 // ---- standard output
 
-// Prints the schedules, at most so many, and says where there are more. Answers false where the room is too small, and prints nothing.
-pub fn print_schedules(rt: &HostRuntime, text: &[u8], bound: u32, room: &mut [u8]) -> bool {
-    match write_schedules(text, bound, room) {
-        Answer::Whole(n) => {
-            streams::write_output(rt, &room[..n]);
-            true
-        }
-        Answer::First(n) => {
-            streams::write_output(rt, &room[..n]);
-            streams::say(rt, b"bench: there are more schedules than these\n");
-            true
-        }
-        Answer::NoRoom => false,
+// Prints the answer, and says where there are more schedules than it has. Prints nothing where the room is too small.
+pub fn print_answer(
+    rt: &HostRuntime,
+    text: &[u8],
+    asked: Asked,
+    room: &mut [u8],
+) -> Result<(), NoRoom> {
+    let answer = write_answer(text, asked, room)?;
+    streams::write_output(rt, &room[..answer.bytes]);
+    if answer.more {
+        streams::say(rt, b"bench: there are more schedules than these\n");
     }
-}
-
-// Prints how many schedules there are, and their outcomes.
-pub fn print_outcomes(rt: &HostRuntime, text: &[u8]) {
-    let mut room = [0u8; outcomes::LINES];
-    match write_outcomes(text, &mut room) {
-        Answer::Whole(n) => {
-            streams::write_output(rt, &room[..n]);
-        }
-        // never
-        Answer::First(_) => {}
-        Answer::NoRoom => streams::say(rt, b"bench: the outcomes do not fit the room\n"),
-    }
+    Ok(())
 }

@@ -1,5 +1,5 @@
 -- What the calls give: the proofs of the functions that make one call cite these.
-use Rattle.std.specs.Prelude.{ℕ, ◌≡◌, Bool, true, false, cond, ◌&&◌, List, eqb, Some, None}
+use Rattle.std.specs.Prelude.{ℕ, ◌≡◌, Bool, true, false, cond, ◌&&◌, List, eqb, Some, None, Result, Ok, Err, is_ok}
 use Rattle.std.proofs.Math.Path.{refl}
 use Rattle.std.proofs.Common.{sym, ap, ◌∙◌, ne_eqb, eqb-true}
 use Rattle.std.proofs.lemmas.Bool.{false≢true, eqb-false}
@@ -8,7 +8,10 @@ use Rattle.words.specs.declared.Queue.{Queue}
 use Rattle.words.specs.declared.Node.{Node}
 use Rattle.words.specs.declared.Sizes.{Sizes}
 use Rattle.words.specs.Layout.{measured, frame_of}
-use Rattle.answers.specs.Said.{Said, refused, says, Step}
+use Rattle.words.specs.Laws.{measured_fits}
+use Rattle.answers.specs.declared.Refusal.{Refusal}
+use Rattle.answers.specs.declared.Refusal.TheVariants as why
+use Rattle.answers.specs.Said.{Said, refused, says, Step, number, refusal_number}
 use Rattle.begins.specs.Begin.{unless, enqueue_why, enqueue_sized, enqueue_measured, enqueue_of}
 use Rattle.begins.specs.Begin.{dequeue_why, dequeue_sized, dequeue_measured, dequeue_of}
 use Rattle.begins.specs.Keeping.{enqueue_kept, dequeue_kept, enqueue_same, dequeue_same}
@@ -97,13 +100,43 @@ may_2 : (o : Op) (t : List ℕ) → o.op ≡ 2 → o.node.0 ≡ 0 → (begun o t
 unfolding begun
 may_2 o t k z = rw (k, z) refl
 
-pub may_enqueue : (o : Op) (s : Sizes) (t : List ℕ) (w : ℕ) → o.op ≡ 1 → measured t ≡ Some s
-    → w ≡ enqueue_why s t o.level o.queue o.node → eqb w 0 ≡ (begun o t).0
-may_enqueue o s t w k m e = ap (λ (i : ℕ). eqb i 0) e ∙ sym (may_1 o t k ∙ enqueue_accepts s t o.level o.queue o.node m)
+-- no refusal has the number 0
+pub numbered : (r : Refusal) → false ≡ eqb (number r) 0
+numbered = elim [
+  | why.Table ↦ refl
+  | why.Sizes ↦ refl
+  | why.Level ↦ refl
+  | why.Queue ↦ refl
+  | why.Node ↦ refl
+  | why.Busy ↦ refl
+  | why.InUse ↦ refl
+  | why.Dequeued ↦ refl
+  | why.Idle ↦ refl
+  | why.Damaged ↦ refl
+  | why.Unquiet ↦ refl
+  | why.Room ↦ refl
+  | why.Many ↦ refl
+]
 
-pub may_dequeue : (o : Op) (s : Sizes) (t : List ℕ) (w : ℕ) → o.op ≡ 2 → o.node.0 ≡ 0 → measured t ≡ Some s
-    → w ≡ dequeue_why s t o.level o.queue → eqb w 0 ≡ (begun o t).0
-may_dequeue o s t w k z m e = ap (λ (i : ℕ). eqb i 0) e ∙ sym (may_2 o t k z ∙ dequeue_accepts s t o.level o.queue m)
+unrefused : (x : Result Unit Refusal) → is_ok x ≡ eqb (refusal_number x) 0
+unrefused (Ok x) = refl
+unrefused (Err r) = numbered r
+
+may_enqueue_is : (o : Op) (s : Sizes) (t : List ℕ) → o.op ≡ 1 → measured t ≡ Some s
+    → eqb (enqueue_why s t o.level o.queue o.node) 0 ≡ (begun o t).0
+may_enqueue_is o s t k m = sym (may_1 o t k ∙ enqueue_accepts s t o.level o.queue o.node m)
+
+may_dequeue_is : (o : Op) (s : Sizes) (t : List ℕ) → o.op ≡ 2 → o.node.0 ≡ 0 → measured t ≡ Some s
+    → eqb (dequeue_why s t o.level o.queue) 0 ≡ (begun o t).0
+may_dequeue_is o s t k z m = sym (may_2 o t k z ∙ dequeue_accepts s t o.level o.queue m)
+
+pub may_enqueue : (o : Op) (s : Sizes) (t : List ℕ) (x : Result Unit Refusal) → o.op ≡ 1 → measured t ≡ Some s
+    → refusal_number x ≡ enqueue_why s t o.level o.queue o.node → is_ok x ≡ (begun o t).0
+may_enqueue o s t x k m e = unrefused x ∙ ap (λ (i : ℕ). eqb i 0) e ∙ may_enqueue_is o s t k m
+
+pub may_dequeue : (o : Op) (s : Sizes) (t : List ℕ) (x : Result Unit Refusal) → o.op ≡ 2 → o.node.0 ≡ 0 → measured t ≡ Some s
+    → refusal_number x ≡ dequeue_why s t o.level o.queue → is_ok x ≡ (begun o t).0
+may_dequeue o s t x k z m e = unrefused x ∙ ap (λ (i : ℕ). eqb i 0) e ∙ may_dequeue_is o s t k z m
 
 pub may_odd : (o : Op) (t : List ℕ) → o.op ≡ 2 → (o.node.0 ≡ 0 → ⊥) → false ≡ (begun o t).0
 may_odd o t k z = sym (ap (λ (x : Tried). x.0) (begun_odd o t k z))
@@ -111,10 +144,12 @@ may_odd o t k z = sym (ap (λ (x : Tried). x.0) (begun_odd o t k z))
 pub may_none : (o : Op) (t : List ℕ) → (o.op ≡ 1 → ⊥) → (o.op ≡ 2 → ⊥) → false ≡ (begun o t).0
 may_none o t k z = sym (ap (λ (x : Tried). x.0) (begun_none o t k z))
 
+pub ruleset may = (measured_fits, may_enqueue, may_dequeue, may_odd, may_none)
+
 -- an operation that would begin: no refusal is given
 pub accepted_enqueue : (o : Op) (s : Sizes) (t : List ℕ) → o.op ≡ 1 → measured t ≡ Some s → (begun o t).0 ≡ true
     → enqueue_why s t o.level o.queue o.node ≡ 0
-accepted_enqueue o s t k m h = eqb-true _ 0 (may_enqueue o s t (enqueue_why s t o.level o.queue o.node) k m refl ∙ h)
+accepted_enqueue o s t k m h = eqb-true _ 0 (may_enqueue_is o s t k m ∙ h)
 
 pub accepted_two : (o : Op) (t : List ℕ) → (o.op ≡ 1 → ⊥) → (begun o t).0 ≡ true → o.op ≡ 2
 accepted_two o t k h = by (eqb o.op 2) refl
@@ -132,7 +167,9 @@ accepted_nodeless o t k h = by (eqb o.node.0 0) refl
 
 pub accepted_dequeue : (o : Op) (s : Sizes) (t : List ℕ) → o.op ≡ 2 → o.node.0 ≡ 0 → measured t ≡ Some s → (begun o t).0 ≡ true
     → dequeue_why s t o.level o.queue ≡ 0
-accepted_dequeue o s t k z m h = eqb-true _ 0 (may_dequeue o s t (dequeue_why s t o.level o.queue) k z m refl ∙ h)
+accepted_dequeue o s t k z m h = eqb-true _ 0 (may_dequeue_is o s t k z m ∙ h)
+
+pub ruleset accepted = (measured_fits, accepted_enqueue, accepted_two, accepted_nodeless, accepted_dequeue)
 
 -- and one that would not leaves the table
 unless_stays : (why : ℕ) (t new : List ℕ) → accepts (unless why t new).0 ≡ false → tried (unless why t new) ≡ (false, t)

@@ -1,10 +1,8 @@
 -- The ways on which nothing is to be chosen.
-use Rattle.std.specs.Prelude.{ℕ, zero, suc, ◌+◌, ◌≤◌, ◌<◌, ◌≡◌, true, cond, List, Some}
+use Rattle.std.specs.Prelude.{ℕ, zero, suc, ◌+◌, ◌≤◌, ◌<◌, ◌≡◌, true, cond, List, Option, Some, None}
 use Rattle.words.specs.declared.Sizes.{Sizes}
 use Rattle.words.specs.Layout.{measured}
 use Rattle.ways.specs.declared.Op.{Op}
-use Rattle.ways.specs.declared.Tail.{Tail}
-use Rattle.ways.specs.declared.Tail.TheVariants.{Ends, Cut}
 use Rattle.ways.specs.Schedules.{stepped, begun, idle}
 
 -- steps while the operation is refused: the moves that are left, 0 where nothing runs before it is accepted, and the table
@@ -19,14 +17,14 @@ gone_on o zero t = (0, t)
 gone_on o (suc left) t = cond (stepped t).0 (stretched o left (stepped t).1) (0, (stepped t).1)
 
 -- n steps were taken: all the steps until nothing runs, where fewer than so many follow
-unfoldable pub end_in : ℕ → ℕ → List ℕ → Tail
-end_in zero n t = Cut
-end_in (suc left) n t = cond (stepped t).0 (end_in left (n + 1) (stepped t).1) (cond (idle t) (Ends n) Cut)
+unfoldable pub end_in : ℕ → ℕ → List ℕ → Option ℕ
+end_in zero n t = None
+end_in (suc left) n t = cond (stepped t).0 (end_in left (n + 1) (stepped t).1) (cond (idle t) (Some n) None)
 
 -- the steps until nothing runs, once the operation has begun
-unfoldable pub last_in : Op → ℕ → List ℕ → Tail
-last_in o zero t = Cut
-last_in o (suc left) t = cond (begun o t).0 (end_in left 0 (begun o t).1) Cut
+unfoldable pub last_in : Op → ℕ → List ℕ → Option ℕ
+last_in o zero t = None
+last_in o (suc left) t = cond (begun o t).0 (end_in left 0 (begun o t).1) None
 
 -- ---- what our own functions ask of each other
 

@@ -3,4 +3,3 @@ pub mod Forced
 pub mod Calls
 pub mod Runs
 pub mod Stretches
-pub mod Copies

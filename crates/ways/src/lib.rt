@@ -5,10 +5,12 @@ ghost use Rattle.std.specs.Prelude.{◌≡◌, true, ◌+◌, ◌-◌, ◌*◌, 
 ghost use Rattle.ways.specs.Schedules.{op_in, begun};
 ghost use Rattle.ways.specs.Forced.{stretched, gone_on, end_in, last_in, TableOf, Open};
 
-use answers::{Ran, Stepped};
-use words::{Level, Measured, Node, Queue, Sizes};
+use answers::Why;
+use words::{Level, Node, Queue, Sizes};
 
 // An operation: op 1 is an enqueue, op 2 with node 0 a dequeue; any other is never accepted.
+// kept: op is a number, as in the words that C lends. One that is none has a level, a queue and a node too, of which `op_event` speaks, and
+// with it what entries promises of any words: an enum would need a third variant with all four.
 #[derive(Clone, Copy)]
 pub struct Op {
     pub op: u16,
@@ -17,14 +19,8 @@ pub struct Op {
     pub node: Node,
 }
 
-// The steps until nothing runs, or Cut where that does not come.
-#[derive(Clone, Copy)]
-pub enum Tail {
-    Ends(u16),
-    Cut,
-}
-
 // Operation i of the words.
+#[tactic(auto, unfolding(crate::specs::Schedules::op_in))]
 pub fn op_in(ops: &[u16], i: usize) -> Op
     requires { (i < 6) × (4 * i + 4 ≤ length ops.now) }
     ensures { result ≡ op_in ops.now i }
@@ -37,23 +33,24 @@ pub fn op_in(ops: &[u16], i: usize) -> Op
     }
 }
 
+// kept: a table and its sizes are two parameters, as in steps and begins. In a struct of both, each contract of the search would have to say
+// that the sizes are those that are asked, of which it now makes them.
+
 // Whether the operation would be accepted.
+#[tactic(auto, using(crate::specs::Calls::may))]
 fn may_begin(t: &[u16], s: Sizes, o: Op) -> bool
     requires { TableOf s t.now }
     ensures { result ≡ (begun o t.now).0 }
 {
-    if o.op == 1 {
-        return begins::enqueue_why(t, s, o.level, o.queue, o.node) == 0;
+    match o.op {
+        1 => begins::enqueue_why(t, s, o.level, o.queue, o.node).is_ok(),
+        2 if o.node.0 == 0 => begins::dequeue_why(t, s, o.level, o.queue).is_ok(),
+        _ => false,
     }
-    if o.op == 2 {
-        if o.node.0 == 0 {
-            return begins::dequeue_why(t, s, o.level, o.queue) == 0;
-        }
-    }
-    false
 }
 
 // Begins the operation, which is accepted, on a table that was measured.
+#[tactic(auto, using(crate::specs::Calls::accepted))]
 fn put_begin(t: &mut [u16], s: Sizes, o: Op)
     requires { TableOf s t.old × ((begun o t.old).0 ≡ true) }
     ensures { (begun o t.old ≡ (true, t.new)) × TableOf s t.new }
@@ -66,6 +63,7 @@ fn put_begin(t: &mut [u16], s: Sizes, o: Op)
 }
 
 // Begins the operation on a table that was measured, if it would be accepted.
+#[tactic(auto, using(crate::specs::Calls::refused_stays))]
 pub fn begin_sized(t: &mut [u16], s: Sizes, o: Op) -> bool
     requires { TableOf s t.old }
     ensures { (begun o t.old ≡ (result, t.new)) × TableOf s t.new }
@@ -79,17 +77,19 @@ pub fn begin_sized(t: &mut [u16], s: Sizes, o: Op) -> bool
 }
 
 // Begins the operation, if it would be accepted.
+#[tactic(auto, using(crate::specs::Calls::begun_unfit))]
 pub fn take_begin(t: &mut [u16], o: Op) -> bool
     ensures { begun o t.old ≡ (result, t.new) }
 {
-    match words::measure(t) {
-        Measured::Sized(s) => begin_sized(t, s, o),
-        Measured::Unfit => false,
-    }
+    let Some(s) = words::measure(t) else {
+        return false;
+    };
+    begin_sized(t, s, o)
 }
 
 // Takes steps while the operation is refused, so that nothing is to be chosen: it stays refused until an operation ends. Answers what is
 // left of the moves, 0 where nothing runs before it is accepted.
+#[tactic(auto, using(crate::specs::Stretches::starts))]
 pub fn stretch(t: &mut [u16], s: Sizes, o: Op, left: u16) -> u16
     requires { TableOf s t.old }
     ensures t_value { stretched o left t.old ≡ (result, t.new) }
@@ -100,22 +100,10 @@ pub fn stretch(t: &mut [u16], s: Sizes, o: Op, left: u16) -> u16
         if may_begin(t, s, o) {
             return rest;
         }
-        match steps::run_sized(t, s, rest) {
-            Ran::Ended(k, _) => {
-                rest -= k;
-            }
-            Ran::Idle(_) => {
-                return 0;
-            }
-            Ran::Spent(_) => {
-                return 0;
-            }
-            Ran::Damaged(_) => {
-                return 0;
-            }
-            Ran::Refused(_) => {
-                return 0;
-            }
+        let ran = steps::run_sized(t, s, rest);
+        match ran.why {
+            Why::Ended(_) => rest -= ran.steps,
+            _ => return 0,
         }
     }
     0
@@ -123,6 +111,7 @@ pub fn stretch(t: &mut [u16], s: Sizes, o: Op, left: u16) -> u16
 
 // Takes a step, where the operation is accepted before it, and then steps while it is refused. Answers what is left of the moves, 0 where
 // no step can be taken or nothing runs before it is accepted again.
+#[tactic(auto, using(crate::specs::Stretches::gone_none, crate::specs::Stretches::shut))]
 pub fn go_on(t: &mut [u16], s: Sizes, o: Op, left: u16) -> u16
     requires { TableOf s t.old × ((begun o t.old).0 ≡ true) }
     ensures t_value { gone_on o left t.old ≡ (result, t.new) }
@@ -132,23 +121,21 @@ pub fn go_on(t: &mut [u16], s: Sizes, o: Op, left: u16) -> u16
         return 0;
     }
     match steps::step_sized(t, s) {
-        Stepped::GoingOn => left - 1,
-        Stepped::Ended(_) => stretch(t, s, o, left - 1),
-        Stepped::Refused(_) => 0,
+        Ok(None) => left - 1,
+        Ok(Some(_)) => stretch(t, s, o, left - 1),
+        Err(_) => 0,
     }
 }
 
-// No operation remains: the steps until nothing runs.
-pub fn steps_left(t: &mut [u16], s: Sizes, left: u16) -> Tail
+// No operation remains: the steps until nothing runs, or None where that does not come.
+pub fn steps_left(t: &mut [u16], s: Sizes, left: u16) -> Option<u16>
     requires { TableOf s t.old }
     ensures { end_in left 0 t.old ≡ result }
 {
-    match steps::run_out(t, s, left) {
-        Ran::Idle(k) => Tail::Ends(k),
-        Ran::Ended(_, _) => Tail::Cut,
-        Ran::Spent(_) => Tail::Cut,
-        Ran::Damaged(_) => Tail::Cut,
-        Ran::Refused(_) => Tail::Cut,
+    let ran = steps::run_out(t, s, left);
+    match ran.why {
+        Why::Idle => Some(ran.steps),
+        _ => None,
     }
 }
 
@@ -157,20 +144,17 @@ pub fn copy_words(from: &[u16], to: &mut [u16])
     requires { length to.old ≡ length from.now }
     ensures { to.new ≡ from.now }
 {
-    let mut i = 0;
-    while i < from.len() {
-        to[i] = from[i];
-        i += 1;
-    }
+    to.copy_from_slice(from);
 }
 
-// The last operation, which is accepted, begins on a copy of the table: the steps that follow it.
-pub fn try_last(t: &[u16], s: Sizes, copy: &mut [u16], o: Op, left: u16) -> Tail
+// The last operation, which is accepted, begins on a copy of the table: the steps that follow it, or None where they do not end.
+#[tactic(auto, using(crate::specs::Stretches::last_none, crate::specs::Stretches::last_begun))]
+pub fn try_last(t: &[u16], s: Sizes, copy: &mut [u16], o: Op, left: u16) -> Option<u16>
     requires { (length copy.old ≡ length t.now) × TableOf s t.now × ((begun o t.now).0 ≡ true) }
     ensures { last_in o left t.now ≡ result }
 {
     if left == 0 {
-        return Tail::Cut;
+        return None;
     }
     copy_words(t, copy);
     put_begin(copy, s, o);

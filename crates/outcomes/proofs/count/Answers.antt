@@ -1,26 +1,13 @@
-use mathlib.Core.Path.{sym, ◌∙◌}
+use Rattle.std.proofs.Common.{refl, sym, ◌∙◌}
 use Rattle.outcomes.specs.TalliesLaws.{count_kept, count_new, count_other}
 use Rattle.outcomes.proofs.count.Goals as goal
 
-pub returns-then-i-n : goal.returns-then-i-n
-returns-then-i-n c = let known = c.known-n.ensures.0 in
-    let find_key = c.find_key-i.ensures.0 in
-    let if1_taken = c.if-i-n.true in
-    let add_one = c.add_one.ensures in
-    add_one ∙ sym (count_kept _ _ _ _ known find_key if1_taken)
+pub returns-in-Some : goal.returns-in-Some
+returns-in-Some c = c.add_one.ensures ∙ sym (count_kept _ _ _ _ c.known-n.ensures.0 c.in-Some.ensures.0 c.in-Some.ensures.1)
 
-pub returns-then-n-lt-KEPT : goal.returns-then-n-lt-KEPT
-returns-then-n-lt-KEPT c = let known = c.known-n.ensures.0 in
-    let find_key = c.find_key-i.ensures.0 in
-    let if1_left = c.if-i-n.false in
-    let if2_taken = c.if-n-lt-KEPT.true in
-    let add_entry = c.add_entry.ensures in
-    add_entry ∙ sym (count_new _ _ _ _ known find_key if1_left if2_taken)
+pub returns-in-None : goal.returns-in-None
+returns-in-None c = c.add_entry.ensures ∙ sym (count_new _ _ _ _ c.known-n.ensures.0 refl c.in-None.ensures c.if-n-lt-KEPT.true)
 
-pub returns-else-n-lt-KEPT : goal.returns-else-n-lt-KEPT
-returns-else-n-lt-KEPT c = let known = c.known-n.ensures.0 in
-    let find_key = c.find_key-i.ensures.0 in
-    let if1_left = c.if-i-n.false in
-    let if2_left = c.if-n-lt-KEPT.false in
-    let add_one2 = c.add_one-else-n-lt-KEPT.ensures in
-    add_one2 ∙ sym (count_other _ _ _ _ known find_key if1_left if2_left)
+pub returns-in-None-2 : goal.returns-in-None-2
+returns-in-None-2 c =
+    c.add_one-in-None-2.ensures ∙ sym (count_other _ _ _ _ c.known-n.ensures.0 refl c.in-None.ensures c.if-n-lt-KEPT.false)

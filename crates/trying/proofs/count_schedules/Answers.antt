@@ -1,24 +1,13 @@
-use Rattle.trying.specs.Laws.{count_lines, count_refused}
+use Rattle.std.proofs.Common.{◌≡◌, ◌∙◌}
+use Rattle.trying.specs.Trying.{answer_says}
+use Rattle.trying.specs.Laws.{written_says, ok_says, count_lines, count_refused}
 use Rattle.trying.proofs.count_schedules.Goals as goal
 
-pub returns-in-Bytes : goal.returns-in-Bytes
-returns-in-Bytes c = let n_is = c.in-Is.is in
-    let tally_schedules = rw n_is at c.tally_schedules.ensures in
-    let m_is = c.in-Bytes.is in
-    let o = c.args.o in
-    let write_outcomes = rw m_is at c.write_outcomes.ensures in
-    count_lines o _ _ _ _ _ _ tally_schedules write_outcomes
+pub returns-in-Ok : goal.returns-in-Ok
+returns-in-Ok c =
+    let written = c.write_outcomes.result in
+    let said : answer_says c.whole.result ≡ written_says written = c.whole.ensures ∙ rw c.ok.ensures.value (ok_says written) in
+    rw said (count_lines c.args.o _ _ _ _ _ _ c.in-Ok.ensures c.write_outcomes.ensures)
 
-pub returns-in-Refused-write_outcomes : goal.returns-in-Refused-write_outcomes
-returns-in-Refused-write_outcomes c = let n_is = c.in-Is.is in
-    let tally_schedules = rw n_is at c.tally_schedules.ensures in
-    let told = c.in-Refused-write_outcomes.is in
-    let o = c.args.o in
-    let write_outcomes = rw told at c.write_outcomes.ensures in
-    count_lines o _ _ _ _ _ _ tally_schedules write_outcomes
-
-pub returns-in-Refused : goal.returns-in-Refused
-returns-in-Refused c = let number_is = c.in-Refused.is in
-    let tally_schedules = rw number_is at c.tally_schedules.ensures in
-    let o = c.args.o in
-    count_refused o _ _ _ _ _ tally_schedules c.tell_refused.ensures
+pub returns-in-Err : goal.returns-in-Err
+returns-in-Err c = count_refused c.args.o _ _ _ _ _ c.in-Err.ensures c.tell_refused.ensures

@@ -1,53 +1,31 @@
-use Rattle.ways.specs.Stretches.{gone_none, gone_going, gone_ended, gone_refused, shut}
-use Rattle.steps.proofs.Singly.{stepped_kept}
+use Rattle.ways.specs.Stretches.{gone_table, gone_on_so, gone_ended, gone_refused, shut}
 use mathlib.Core.Path.{◌∙◌}
 use native.Mathlib.Omega.{arith}
-use Rattle.ways.proofs.go_on.Reads as reads
-use Rattle.ways.proofs.go_on.Lts as lts
-use Rattle.steps.proofs.step_sized.Reads as step-sized-reads
-use Rattle.ways.proofs.stretch.Reads as stretch-reads
 use Rattle.ways.proofs.go_on.Goals as goal
 
--- src/lib.rt:139:9
-pub returns-then-left-eq0 : goal.returns-then-left-eq0
-returns-then-left-eq0 c = record { t_value = gone_none _ _ _ c.if-left-eq0.true; fact = shut _ _ _ _ c.requires.0 }
-
--- src/lib.rt:141:11
-pub step_sized-requires : goal.step_sized-requires
-step_sized-requires c = c.requires.0
-
--- src/lib.rt:143:30
 pub stretch-requires : goal.stretch-requires
-stretch-requires c = let pre_0 = c.requires.0 in
-    let step_sized_says = c.step_sized.ensures in
-    stepped_kept _ _ _ _ pre_0 step_sized_says
+stretch-requires c = gone_table c.args.o _ _ _ c.requires.0 _ _ c.if-left-eq0.false c.step_sized.ensures
 
--- src/lib.rt:133:1
-pub returns-in-GoingOn : goal.returns-in-GoingOn
-returns-in-GoingOn c = let pre_0 = c.requires.0 in
-    let pre_1 = c.requires.1 in
-    let if1_no = c.if-left-eq0.false in
-    let enum_told_known_1 = c.in-GoingOn.is in
-    let step_sized_says = c.step_sized.ensures in
-    let went = gone_going _ _ _ _ pre_0 _ pre_1 if1_no (rw enum_told_known_1 at step_sized_says) in
-    record { t_value = went.0; fact = (omega arith, went.1, λ h. went.2) }
+pub returns-in-Ok-None-clause-t_value : goal.returns-in-Ok-None-clause-t_value
+returns-in-Ok-None-clause-t_value c =
+    let is = rw c.in-Ok-None.field-0-is at c.in-Ok-None.is in
+    let went = gone_on_so c.args.o _ _ _ c.requires.0 _ _ c.if-left-eq0.false c.step_sized.ensures c.requires.1 is in
+    went.0
 
--- src/lib.rt:133:1
-pub returns-in-Ended : goal.returns-in-Ended
-returns-in-Ended c = let pre_0 = c.requires.0 in
-    let if1_no = c.if-left-eq0.false in
-    let enum_told2_known_1 = c.in-Ended.is in
-    let step_sized_says = c.step_sized.ensures in
-    let stretch_says_0 = c.stretch.ensures.t_value in
-    let stretch_says_1 = c.stretch.ensures.fact in
-    let went = gone_ended _ _ _ _ pre_0 _ _ if1_no (rw enum_told2_known_1 at step_sized_says) in
-    record { t_value = went ∙ stretch_says_0; fact = stretch_says_1 }
+pub returns-in-Ok-None-clause-fact : goal.returns-in-Ok-None-clause-fact
+returns-in-Ok-None-clause-fact c =
+    let is = rw c.in-Ok-None.field-0-is at c.in-Ok-None.is in
+    let kept = gone_table c.args.o _ _ _ c.requires.0 _ _ c.if-left-eq0.false c.step_sized.ensures in
+    let went = gone_on_so c.args.o _ _ _ c.requires.0 _ _ c.if-left-eq0.false c.step_sized.ensures c.requires.1 is in
+    (omega arith, kept, λ h. went.1)
 
--- src/lib.rt:133:1
-pub returns-in-Refused : goal.returns-in-Refused
-returns-in-Refused c = let pre_0 = c.requires.0 in
-    let if1_no = c.if-left-eq0.false in
-    let enum_told3_known_1 = c.in-Refused.is in
-    let step_sized_says = c.step_sized.ensures in
-    let went = gone_refused _ _ _ _ pre_0 _ _ if1_no (rw enum_told3_known_1 at step_sized_says) in
-    record { t_value = went; fact = shut _ _ _ _ (stepped_kept _ _ _ _ pre_0 step_sized_says) }
+pub returns-in-Ok-Some-clause-t_value : goal.returns-in-Ok-Some-clause-t_value
+returns-in-Ok-Some-clause-t_value c =
+    let is = rw c.in-Ok-Some.field-0-is at c.in-Ok-Some.is in
+    gone_ended _ _ _ _ c.requires.0 _ _ c.if-left-eq0.false c.step_sized.ensures _ is ∙ c.stretch.ensures.t_value
+
+pub returns-in-Err-clause-t_value : goal.returns-in-Err-clause-t_value
+returns-in-Err-clause-t_value c = gone_refused _ _ _ _ c.requires.0 _ _ c.if-left-eq0.false c.step_sized.ensures _ c.in-Err.is
+
+pub returns-in-Err-clause-fact : goal.returns-in-Err-clause-fact
+returns-in-Err-clause-fact c = shut _ _ _ _ (gone_table c.args.o _ _ _ c.requires.0 _ _ c.if-left-eq0.false c.step_sized.ensures)

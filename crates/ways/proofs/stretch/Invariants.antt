@@ -4,10 +4,6 @@ use Rattle.words.specs.Layout.{measured}
 use lib.ListN.{length}
 use mathlib.Core.Path.{◌≡◌}
 use Prim.Native.Nat.{◌≤◌}
-use Rattle.ways.proofs.stretch.Reads as reads
-use Rattle.ways.proofs.stretch.Lts as lts
-use Rattle.steps.proofs.run_sized.Reads as run-sized-reads
-use Rattle.ways.proofs.may_begin.Reads as may-begin-reads
 use Rattle.ways.proofs.stretch.Given as goal
 
 abbrev pub invariant-loop-rest : goal.invariant-loop-rest

@@ -1,4 +1,0 @@
-use Rattle.exporttries.proofs.pack_tried.Goals as goal
-
-pub returns-in-Refused : goal.returns-in-Refused
-returns-in-Refused c = simp (c.in-Refused.is, c.pack-in-Refused.ensures)
