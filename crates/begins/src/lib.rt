@@ -14,6 +14,7 @@ use words::{Frame, Level, Node, Queue, Sizes, Word};
 // function that takes the others as closures would be longer than the two.
 
 // The frame of an operation that begins.
+// kept: op and point are numbers, as in words::Frame.
 fn begin_frame(op: u16, point: u16, q: Queue, n: Node) -> Frame
     ensures { result ≡ begun_at op point q n }
 {
@@ -51,6 +52,7 @@ pub fn enqueue_why(t: &[u16], s: Sizes, l: Level, q: Queue, n: Node) -> Result<(
 }
 
 // Begins an enqueue that is not refused, on a table that was measured.
+// kept: op and point are numbers, as in words::Frame.
 #[tactic(auto, using(crate::specs::Laws::enqueues), unfolding(crate::specs::Begin::unless, crate::specs::Begin::enqueue_sized))]
 pub fn put_enqueue(t: &mut [u16], s: Sizes, l: Level, q: Queue, n: Node)
     requires fits { Fits s t.old }
@@ -103,6 +105,7 @@ pub fn dequeue_why(t: &[u16], s: Sizes, l: Level, q: Queue) -> Result<(), Refusa
 }
 
 // Begins a dequeue that is not refused, on a table that was measured.
+// kept: op and point are numbers, as in words::Frame.
 #[tactic(auto, using(crate::specs::Laws::dequeues), unfolding(crate::specs::Begin::unless, crate::specs::Begin::dequeue_sized))]
 pub fn put_dequeue(t: &mut [u16], s: Sizes, l: Level, q: Queue)
     requires fits { Fits s t.old }

@@ -27,6 +27,7 @@ pub enum Sought {
     DequeueOn(Queue),
 }
 
+// kept: op is a number, as in words::Frame.
 #[tactic(auto, unfolding(crate::specs::Conditions::sought))]
 fn is_sought(w: Sought, f: Frame) -> bool
     ensures { result ≡ sought w f }

@@ -27,6 +27,7 @@ pub struct Schedule<'a> {
 }
 
 // The event that begins the operation.
+// kept: op is a number, as in ways::Op.
 #[tactic(auto, unfolding(crate::specs::Texts::op_event))]
 fn op_event(o: Op) -> Event
     ensures { result ≡ op_event o }

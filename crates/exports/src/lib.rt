@@ -54,6 +54,7 @@ fn pack_done(a: Result<(), Refusal>) -> u32
     a.map_or_else(refused, |()| pack(0, 0))
 }
 
+// kept: the codes that C reads (docs/CALLS.md; specs: step_reply, why_code).
 fn pack_step(a: Result<Option<End>, Refusal>) -> u32
     ensures { result ≡ step_reply (step_says a) }
 {
@@ -64,6 +65,7 @@ fn pack_step(a: Result<Option<End>, Refusal>) -> u32
     }
 }
 
+// kept: the codes that C reads (docs/CALLS.md; specs: why_code).
 fn code_of(why: Why) -> u16
     ensures { result ≡ why_code (why_says why) }
 {

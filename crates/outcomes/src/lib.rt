@@ -52,6 +52,7 @@ use std::marker::Model;
 use words::{Queue, Sizes};
 
 // Ends what the dequeues returned, and each queue's nodes; no node has this number.
+// kept: the mark is one of the sixteen numbers of a key in the lent tallies (specs: mark, numbers_text); an Option has no room there.
 const MARK: u16 = 65535;
 
 // So many outcomes are kept; the schedules of all others are counted together.

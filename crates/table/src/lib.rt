@@ -90,6 +90,7 @@ impl Point {
 }
 
 // The points' numbers in their order: the names of the code are the names of the definitions.
+// kept: this clause alone says that the constants have document 01's numbers, in its order.
 pub fn numbers() -> [u16; 36]
     ensures { result ≡ map number_of points }
 {
@@ -135,6 +136,7 @@ pub fn numbers() -> [u16; 36]
 
 // What follows an access: the frame as it goes on (it stays at its point, or goes to another), or the operation's end with its node, 0 for
 // empty.
+// kept: Done's node is a number, 0 for empty, as in answers::End and in the rows' ends (specs/Frames.antt, ends).
 #[derive(Clone, Copy)]
 pub enum After {
     Go(Frame),

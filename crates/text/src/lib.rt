@@ -63,6 +63,7 @@ fn lines_before(text: &[u8], place: usize) -> usize
     count_lfs(&text[..place.min(text.len())])
 }
 
+// kept: line 0 for a text that is too long is promised (line_at, docs/SCHEDULE.md).
 #[tactic(auto, using(std::proofs::lemmas::Bool::Decides::nat_tests), unfolding(crate::specs::Reading::line_at))]
 pub fn line_at(text: &[u8], place: usize) -> usize
     ensures { result ≡ line_at text.now place }

@@ -225,6 +225,7 @@ fn count_as(
 }
 
 // How many schedules there are.
+// kept: two public names with a promise each (number_of, tally_of) over count_as.
 pub fn count_schedules(levels: u16, queues: u16, nodes: u16, ops: &[u16]) -> Result<u64, Refusal>
     ensures { number_of levels queues nodes ops.now ≡ number_says result }
 {

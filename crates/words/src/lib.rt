@@ -34,6 +34,7 @@ pub struct Queue(pub u16);
 #[derive(Clone, Copy, Default, PartialEq, Eq)]
 pub struct Node(pub u16);
 
+// kept: usize, as indices and sums are made of them; text::Opening and search::Asked hold any 16 bits, as told or asked.
 #[derive(Clone, Copy)]
 pub struct Sizes {
     pub levels: usize,
@@ -234,6 +235,7 @@ fn frame_place(s: Sizes, l: Level) -> usize
     4 + 2 * s.levels + 2 * s.queues + 2 * s.nodes + 11 * l.index()
 }
 
+// kept: beside load, since no frame's word has a name (Word, and has, addr, rd over it); a number, as Frame's op.
 pub fn op_of(t: &[u16], s: Sizes, l: Level) -> u16
     requires fits { Fits s t.now }
     requires l_lt_levels { l.0 < s.levels }
