@@ -138,6 +138,7 @@ pub extern "C" fn exports_begin_dequeue(t: &mut [u16], l: u16, q: u16) -> u32
     pack_done(begins::begin_dequeue(t, Level(l), Queue(q)))
 }
 
+// kept: each call has a name of its own, as C knows it.
 #[unsafe(no_mangle)]
 pub extern "C" fn exports_step(t: &mut [u16], end: &mut [u16; 5]) -> u32
     ensures { step_out (step_of t.old) end.old ≡ (result, (t.new, end.new)) }

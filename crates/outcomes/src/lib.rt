@@ -101,6 +101,7 @@ impl Notes {
     }
 
     // Notes what an operation that ended returned: a dequeue's node, 0 for empty.
+    // kept: op is a number, as in answers::End.
     #[tactic(auto, unfolding(crate::specs::Notes::note, crate::specs::Outcomes::returned))]
     fn put_end(&mut self, e: End)
         ensures { note self.old (returned e) ≡ self.new }
@@ -157,6 +158,7 @@ impl Notes {
                 self.put(*x);
             }
         }
+        // kept: the mark is a number, as said at MARK.
         self.put(MARK);
     }
 
@@ -230,6 +232,7 @@ impl Trial<'_> {
         // of sizes that are refused the contract says nothing
         let _ = fresh::fresh_table(t, self.levels, self.queues, self.nodes);
         notes.replay(t, schedule);
+        // kept: the mark is a number, as said at MARK.
         notes.put(MARK);
         notes.put_queues(t, self.queues);
         notes
@@ -338,6 +341,7 @@ fn put_decimal(pen: &mut Pen, n: u64)
 }
 
 // ` NODE` or ` empty`
+// kept: 0 is empty, as in answers::End, and one of the numbers of a key (specs: value_text).
 fn put_value(pen: &mut Pen, x: u16)
     ensures { Writes pen.old pen.new (value_text x) }
 {
@@ -365,6 +369,7 @@ fn put_numbers(pen: &mut Pen, tallies: &[u64], key: usize, queues: u16)
     let mut q: u16 = 0;
     for j in 0..16 {
         let x = number_in(tallies, key, j);
+        // kept: the mark is a number, as said at MARK.
         if x != MARK {
             put_value(pen, x);
         } else if q < queues {

@@ -259,6 +259,7 @@ impl Search<'_> {
         let s = self.asked.sizes();
         let o = ways::op_in(self.ops, at.i);
         let k = ways::go_on(t, s, o, at.left);
+        // kept: k is 0 where nothing goes on, as ways::go_on and ways::stretch answer.
         if k == 0 {
             return;
         }
@@ -324,6 +325,7 @@ impl Search<'_> {
         }
         let i = at.i + 1;
         let k = ways::stretch(t, s, ways::op_in(self.ops, i), left);
+        // kept: k is 0 where nothing goes on, as ways::go_on and ways::stretch answer.
         if k == 0 {
             return;
         }

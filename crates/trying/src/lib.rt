@@ -45,6 +45,7 @@ const BOUND: u32 = 20000;
 // ---- the arguments
 
 // One digit more, if it is one and the number stays within 32 bits.
+// kept: no decimals::read_rest, whose numbers have 16 bits, no leading zero and a byte that ends them (specs: digit_on).
 #[tactic(auto, unfolding(crate::specs::Bounds::digit_on))]
 fn add_digit(n: u32, b: u8) -> Option<u32>
     ensures { result ≡ digit_on n b }

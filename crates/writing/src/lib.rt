@@ -56,6 +56,7 @@ fn opening_in(words: &[u16]) -> Opening
 }
 
 // The length of a text that starts with so many bytes and has so many events after them.
+// kept: measured and written in two walks: the first may meet a wrong line, the second meets none and has room (lengths_in, lines_in).
 #[tactic(auto, using(crate::specs::Laws::lengths), unfolding(text::specs::Reading::line_answer))]
 fn measure_events(words: &[u16], start: usize, count: u16) -> Result<usize, BadLine>
     requires { (4 ≤ length words.now) × (start ≤ 26) }
