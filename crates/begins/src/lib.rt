@@ -10,8 +10,9 @@ use answers::Refusal;
 use table::Point;
 use words::{Frame, Level, Node, Queue, Sizes, Word};
 
-// An enqueue and a dequeue each have their three functions below: kept apart, since they share the order of the calls alone, and one
-// function that takes the others as closures would be longer than the two.
+// An enqueue and a dequeue each have their three functions below: kept apart, since they share three tests and the order of the calls, and
+// one function that takes the others as closures would be longer than the two. Level, queue and node are three parameters, as document 01's
+// calls have them.
 
 // The frame of an operation that begins.
 // kept: op and point are numbers, as in words::Frame.
@@ -28,6 +29,7 @@ fn begin_frame(op: u16, point: u16, q: Queue, n: Node) -> Frame
 }
 
 // The first refusal of an enqueue, if there is one.
+// kept: t and s beside each other, as in words.
 #[tactic(auto, using(conditions::specs::Laws::has_node), unfolding(crate::specs::Begin::enqueue_why))]
 pub fn enqueue_why(t: &[u16], s: Sizes, l: Level, q: Queue, n: Node) -> Result<(), Refusal>
     requires { Fits s t.now }

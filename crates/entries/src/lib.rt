@@ -40,6 +40,7 @@ fn op_event(o: Op) -> Event
 }
 
 // What the S line of so many steps takes; none where there are no steps.
+// kept: no Display, as in lines.
 #[tactic(auto, using(crate::proofs::Entries::no_steps, crate::proofs::Entries::no_steps_text))]
 fn steps_size(c: u16) -> Size
     ensures { (result.events ≡ length (step_events c)) × (result.bytes ≡ length (events_text (step_events c)))

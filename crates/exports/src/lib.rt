@@ -83,6 +83,7 @@ fn pack_run(a: Result<Ran, Refusal>) -> u32
     a.map_or_else(refused, |ran| pack(ran.steps, code_of(ran.why)))
 }
 
+// kept: the C interface: the five words of an end, in their order.
 fn put_end(end: &mut [u16; 5], e: End)
     ensures { end.new ≡ end_words e }
 {

@@ -258,6 +258,8 @@ impl Trial<'_> {
 }
 
 // How many outcomes are kept.
+// kept: tallies are lent words, at least TALLIES of them, in records of five behind two counts: callers lend them, by &mut to count and
+// by & to write (tally_schedules, write_outcomes), and nothing is allocated.
 #[tactic(auto, unfolding(crate::specs::Tallies::known_in))]
 fn known(tallies: &[u64]) -> usize
     requires { 5122 ≤ length tallies.now }
@@ -325,6 +327,7 @@ fn part_of(w: u64, j: usize) -> u16
 }
 
 // Number j of the outcome's key, which starts at this place.
+// kept: four numbers to a word, as the definitions of the tallies have them (number_in, key_of).
 #[tactic(auto, unfolding(crate::specs::Lines::number_in))]
 fn number_in(tallies: &[u64], key: usize, j: usize) -> u16
     requires { (key + 4 ≤ length tallies.now) × (j < 16) }
@@ -342,6 +345,7 @@ fn put_decimal(pen: &mut Pen, n: u64)
 
 // ` NODE` or ` empty`
 // kept: 0 is empty, as in answers::End, and one of the numbers of a key (specs: value_text).
+// kept: no Display of the lines, for the reason beside loglines::Pen.
 fn put_value(pen: &mut Pen, x: u16)
     ensures { Writes pen.old pen.new (value_text x) }
 {

@@ -60,6 +60,7 @@ fn with_steps(f: Frame, first: u16, n: u16) -> Frame
 }
 
 // What an operation's last step answers.
+// kept: field by field, since a Frame and an End are two types, and an End has a level and another node.
 fn end_of(l: Level, f: Frame, n: Node) -> End
     ensures { result ≡ end_of l f n }
 {

@@ -174,6 +174,7 @@ fn below_m(f: Frame, x: u16, y: u16) -> After
 }
 
 // What the word holds, where it is one of the table's.
+// kept: t and s beside each other, as in words.
 #[tactic(auto, unfolding(crate::specs::Turn::loaded))]
 fn load(t: &[u16], s: Sizes, w: Word) -> Option<u16>
     requires { Fits s t.now }

@@ -181,6 +181,7 @@ fn ask(
 }
 
 // Every schedule of the operations, four words each, as text, at most bound of them.
+// kept: three numbers, as the call for C takes them and hands them on.
 pub fn try_schedules(
     levels: u16,
     queues: u16,

@@ -20,6 +20,7 @@ pub struct Op {
 }
 
 // Operation i of the words.
+// kept: by place: a slice pattern would want an else that never runs, as the words are there.
 #[tactic(auto, unfolding(crate::specs::Schedules::op_in))]
 pub fn op_in(ops: &[u16], i: usize) -> Op
     requires { (i < 6) × (4 * i + 4 ≤ length ops.now) }
@@ -33,7 +34,7 @@ pub fn op_in(ops: &[u16], i: usize) -> Op
     }
 }
 
-// kept: a table and its sizes are two parameters, as in steps and begins. In a struct of both, each contract of the search would have to say
+// kept: a table and its sizes are two parameters, as in words. In a struct of both, each contract of the search would have to say
 // that the sizes are those that are asked, of which it now makes them.
 
 // Whether the operation would be accepted.
