@@ -1,5 +1,5 @@
 -- What the proofs of one schedule more cite.
-use Rattle.std.specs.Prelude.{ℕ, zero, suc, ◌+◌, ◌-◌, ◌≤◌, ◌<◌, ◌≡◌, Bool, true, false, length, take, set, leb, Option, Some, None}
+use Rattle.std.specs.Prelude.{ℕ, zero, suc, ◌+◌, ◌-◌, ◌≤◌, ◌<◌, ◌≡◌, Bool, true, false, length, take, set, leb, cond, Option, Some, None}
 use Rattle.std.proofs.Math.Path.{refl}
 use Rattle.std.proofs.Common.{sym, ap, ◌∙◌, arith, add-one}
 use mathlib.Core.List.{List, [], ◌∷◌}
@@ -119,6 +119,13 @@ module _ (a : Asked) (ws : List ℕ) where
   entered_take path Tally st = rw (tallied_take (sizes_of a) ws a.operations path st.1.1) refl
   entered_take path Measure st = rw (entry_take a ws path) refl
   entered_take path Write st = rw (entry_take a ws path) refl
+
+  -- a text that has no room is not written
+  pub entered_full : (path : List ℕ) (b : Bool) (l r : Listed) (room ts : List ℕ) → r ≡ noted (entry_text a ws path) l room
+      → written (entry_text a ws path) l room ≡ room → (r, (room, ts)) ≡ entered a ws path (cond b Write Measure) (l, (room, ts))
+  unfolding entered
+  entered_full path true l r room ts e f = rw (e, f) refl
+  entered_full path false l r room ts e f = rw e refl
 
   pub emit_on : (path : List ℕ) (st out : State) (w : What) → is_going st.0.stop ≡ true → st.0.count < a.bound → a.what ≡ w
       → out ≡ entered a ws path w st → emitted a ws (take (a.operations + 1) path) st ≡ out

@@ -2,7 +2,7 @@
 // with the moves that remain falling. Where there is a choice the table is saved by value.
 #![tactic(auto)]
 
-ghost use Rattle.std.specs.Prelude.{◌≡◌, true, ◌+◌, ◌≤◌, ◌<◌, length, take, leb};
+ghost use Rattle.std.specs.Prelude.{◌≡◌, true, ◌+◌, ◌≤◌, ◌<◌, length, take, leb, cond};
 ghost use Rattle.words.specs.Layout.{words};
 ghost use Rattle.ways.specs.Schedules.{op_in, begun, by_step, by_begin};
 ghost use Rattle.ways.specs.Forced.{TableOf};
@@ -156,30 +156,11 @@ impl Listed {
 }
 
 impl Search<'_> {
-    // One schedule more, whose text is measured only.
-    fn measure(&self, path: [u16; 7], out: &mut Listing<'_>)
+    // One schedule more, whose text is measured, and written where that is asked.
+    fn list_text(&self, path: [u16; 7], writes: bool, out: &mut Listing<'_>)
         requires { out.old.listed.count < self.now.asked.bound }
-        ensures value { state_of out.new ≡ entered self.now.asked self.now.ops.now path Measure (state_of out.old) }
-        ensures kept { Kept out.old out.new }
-    {
-        let schedule = Schedule {
-            ops: self.ops,
-            path,
-            k: self.asked.operations,
-        };
-        let s = schedule.events_size();
-        let n = lines::opening_length(self.asked.opening(s.events)) + s.bytes;
-        if has_room(out.room.len(), out.listed.at, n) {
-            out.listed.add(n);
-        } else {
-            out.listed.close(Stop::Full);
-        }
-    }
-
-    // One schedule more, whose text is written.
-    fn write(&self, path: [u16; 7], out: &mut Listing<'_>)
-        requires { out.old.listed.count < self.now.asked.bound }
-        ensures value { state_of out.new ≡ entered self.now.asked self.now.ops.now path Write (state_of out.old) }
+        ensures value { state_of out.new
+            ≡ entered self.now.asked self.now.ops.now path (cond writes Write Measure) (state_of out.old) }
         ensures kept { Kept out.old out.new }
     {
         let schedule = Schedule {
@@ -191,12 +172,14 @@ impl Search<'_> {
         let o = self.asked.opening(s.events);
         let n = lines::opening_length(o) + s.bytes;
         let at = out.listed.at;
-        if has_room(out.room.len(), at, n) {
-            out.listed.add(n);
-            schedule.write_text(out.room, at, o);
-        } else {
-            out.listed.close(Stop::Full);
+        if !has_room(out.room.len(), at, n) {
+            return out.listed.close(Stop::Full);
         }
+        out.listed.add(n);
+        if !writes {
+            return;
+        }
+        schedule.write_text(out.room, at, o);
     }
 
     // One schedule more: its counts are the first of the path, one more than there are operations.
@@ -226,8 +209,8 @@ impl Search<'_> {
                 trial.tally(out.copy, out.tallies);
                 out.listed.add(0);
             }
-            What::Measure => self.measure(path, out),
-            What::Write => self.write(path, out),
+            What::Measure => self.list_text(path, false, out),
+            What::Write => self.list_text(path, true, out),
         }
     }
 

@@ -47,11 +47,11 @@ fn make_fresh(t: &mut [u16], asked: Asked)
 }
 
 // Every schedule of the operations from a fresh table, which has at most N words.
-fn list_in<const N: usize>(search: Search<'_>, room: &mut [u8], tallies: &mut [u64]) -> Listed
-    requires { (words (sizes_of search.asked) ≤ N) × (N ≤ 2276) }
-    ensures { listed_of search.entry.asked search.entry.ops.now room.old tallies.old ≡ (result, (room.new, tallies.new)) }
+fn list_in<const N: usize>(request: Search<'_>, room: &mut [u8], tallies: &mut [u64]) -> Listed
+    requires { (words (sizes_of request.asked) ≤ N) × (N ≤ 2276) }
+    ensures { listed_of request.entry.asked request.entry.ops.now room.old tallies.old ≡ (result, (room.new, tallies.new)) }
 {
-    let asked = search.asked;
+    let asked = request.asked;
     let s = asked.sizes();
     let w = words::words_of(s);
     let mut table = [0u16; N];
@@ -70,7 +70,7 @@ fn list_in<const N: usize>(search: Search<'_>, room: &mut [u8], tallies: &mut [u
     };
     if asked.operations == 0 {
         let tail = ways::steps_left(t, s, MOVES);
-        search.emit_tail(tail, [0u16; 7], &mut out);
+        request.emit_tail(tail, [0u16; 7], &mut out);
         return out.listed;
     }
     // nothing runs yet: no schedule begins with a step
@@ -80,18 +80,18 @@ fn list_in<const N: usize>(search: Search<'_>, room: &mut [u8], tallies: &mut [u
         n: 0,
         path: [0u16; 7],
     };
-    search.explore_begin::<N>(t, at, &mut out);
+    request.explore_begin::<N>(t, at, &mut out);
     out.listed
 }
 
 // Every schedule of the operations from a fresh table.
-fn list_all(search: Search<'_>, room: &mut [u8], tallies: &mut [u64]) -> Listed
-    ensures { listed_of search.entry.asked search.entry.ops.now room.old tallies.old ≡ (result, (room.new, tallies.new)) }
+fn list_all(request: Search<'_>, room: &mut [u8], tallies: &mut [u64]) -> Listed
+    ensures { listed_of request.entry.asked request.entry.ops.now room.old tallies.old ≡ (result, (room.new, tallies.new)) }
 {
-    if words::words_of(search.asked.sizes()) <= SMALL {
-        list_in::<SMALL>(search, room, tallies)
+    if words::words_of(request.asked.sizes()) <= SMALL {
+        list_in::<SMALL>(request, room, tallies)
     } else {
-        list_in::<WORDS>(search, room, tallies)
+        list_in::<WORDS>(request, room, tallies)
     }
 }
 
@@ -99,20 +99,20 @@ fn list_all(search: Search<'_>, room: &mut [u8], tallies: &mut [u64]) -> Listed
 pub const LONGEST: usize = 202;
 
 // Whether the room is too small for the texts that are wanted. Where it has LONGEST bytes for each, it is not; else they are measured.
-fn is_short(search: Search<'_>, room: &mut [u8]) -> bool
-    ensures { (result ≡ short search.entry.asked search.entry.ops.now room.old) × (room.new ≡ room.old) }
+fn is_short(request: Search<'_>, room: &mut [u8]) -> bool
+    ensures { (result ≡ short request.entry.asked request.entry.ops.now room.old) × (room.new ≡ room.old) }
 {
-    if search.asked.bound <= (room.len() / LONGEST) as u64 {
+    if request.asked.bound <= (room.len() / LONGEST) as u64 {
         return false;
     }
     let asked = Asked {
         what: What::Measure,
-        ..search.asked
+        ..request.asked
     };
     let measured = list_all(
         Search {
             asked,
-            ops: search.ops,
+            ops: request.ops,
         },
         room,
         &mut [],
@@ -121,22 +121,22 @@ fn is_short(search: Search<'_>, room: &mut [u8]) -> bool
 }
 
 // The texts in the room; nothing is written where it is too small.
-fn list_texts(search: Search<'_>, room: &mut [u8]) -> Result<Tried, Refusal>
-    requires { search.asked.bound ≤ 4294967295 }
-    ensures { let a = search.entry.asked in
-        listed_in (texts (sizes_of a) (ops_of a search.entry.ops.now)) a.bound room.old ≡ (tried_says result, room.new) }
+fn list_texts(request: Search<'_>, room: &mut [u8]) -> Result<Tried, Refusal>
+    requires { request.asked.bound ≤ 4294967295 }
+    ensures { let a = request.entry.asked in
+        listed_in (texts (sizes_of a) (ops_of a request.entry.ops.now)) a.bound room.old ≡ (tried_says result, room.new) }
 {
-    if is_short(search, room) {
+    if is_short(request, room) {
         return Err(Refusal::Room);
     }
     let asked = Asked {
         what: What::Write,
-        ..search.asked
+        ..request.asked
     };
     let listed = list_all(
         Search {
             asked,
-            ops: search.ops,
+            ops: request.ops,
         },
         room,
         &mut [],
@@ -192,21 +192,21 @@ pub fn try_schedules(
 ) -> Result<Tried, Refusal>
     ensures { tries_of levels queues nodes ops.now bound room.old ≡ (tried_says result, room.new) }
 {
-    let search = ask(levels, queues, nodes, ops, u64::from(bound), What::Write)?;
-    list_texts(search, room)
+    let request = ask(levels, queues, nodes, ops, u64::from(bound), What::Write)?;
+    list_texts(request, room)
 }
 
 // Nothing bounds the count.
 pub const UNBOUND: u64 = 18446744073709551615;
 
 // How many schedules there are; their outcomes are counted too, where that is asked.
-fn count_all(search: Search<'_>, tallies: &mut [u64]) -> u64
-    requires { Counting search.asked }
-    ensures value { let a = search.entry.asked in result ≡ length (schedules (sizes_of a) (ops_of a search.entry.ops.now)) }
-    ensures tallies_after { let a = search.entry.asked in let ws = search.entry.ops.now in
+fn count_all(request: Search<'_>, tallies: &mut [u64]) -> u64
+    requires { Counting request.asked }
+    ensures value { let a = request.entry.asked in result ≡ length (schedules (sizes_of a) (ops_of a request.entry.ops.now)) }
+    ensures tallies_after { let a = request.entry.asked in let ws = request.entry.ops.now in
         a.what ≡ Tally → tallies.new ≡ tallied_all (sizes_of a) ws a.operations (schedules (sizes_of a) (ops_of a ws)) tallies.old }
 {
-    list_all(search, &mut [], tallies).count
+    list_all(request, &mut [], tallies).count
 }
 
 fn count_as(
@@ -221,8 +221,8 @@ fn count_as(
     ensures ops_value { number_of levels queues nodes ops.now ≡ number_says result }
     ensures tallies_value { what ≡ Tally → tallies_of levels queues nodes ops.now tallies.old ≡ tallies.new }
 {
-    let search = ask(levels, queues, nodes, ops, UNBOUND, what)?;
-    Ok(count_all(search, tallies))
+    let request = ask(levels, queues, nodes, ops, UNBOUND, what)?;
+    Ok(count_all(request, tallies))
 }
 
 // How many schedules there are.

@@ -3,4 +3,4 @@ use Rattle.tries.specs.Answers.{words_fit}
 use Rattle.tries.proofs.list_all.Goals as goal
 
 pub list_in-requires-else-words_of-le-SMALL : goal.list_in-requires-else-words_of-le-SMALL
-list_in-requires-else-words_of-le-SMALL c = (words_fit _ c.args.search.fits.0, lit≤ tt)
+list_in-requires-else-words_of-le-SMALL c = (words_fit _ c.args.request.fits.0, lit≤ tt)

@@ -3,17 +3,17 @@ use borrow.Author.Rules.{rules}
 use Rattle.tries.specs.Answers.{try_refused, try_on}
 use Rattle.tries.proofs.try_schedules.Goals as goal
 
-pub returns-in_err-search : goal.returns-in_err-search
-returns-in_err-search c =
-    let told = c.in_err-search.ensures in
+pub returns-in_err-request : goal.returns-in_err-request
+returns-in_err-request c =
+    let told = c.in_err-request.ensures in
     let said = try_refused c.args.levels c.args.queues c.args.nodes c.args.ops.now _ told c.args.bound c.args.room.now in
     search (rules, said)
 
 pub list_texts-requires : goal.list_texts-requires
-list_texts-requires c = rw c.in_ok-search.ensures.0 (omega arith)
+list_texts-requires c = rw c.in_ok-request.ensures.0 (omega arith)
 
 pub returns : goal.returns
 returns c =
-    let told = c.in_ok-search.ensures in
+    let told = c.in_ok-request.ensures in
     let listed = c.list_texts.ensures in
     try_on _ _ _ _ told.2 _ _ _ (rw (told.0, told.1, c.from.ensures) at listed)

@@ -22,7 +22,7 @@ returns-in-Tally-clause-value c =
     emit_on _ _ _ _ _ _ (cc) c.if-self-out.false c.in-Tally.is (rw (c.add-in-Tally.ensures, tally_says) refl)
 
 pub returns-in-Measure-clause-value : goal.returns-in-Measure-clause-value
-returns-in-Measure-clause-value c = emit_on _ _ _ _ _ _ (cc) c.if-self-out.false c.in-Measure.is c.measure.ensures.value
+returns-in-Measure-clause-value c = emit_on _ _ _ _ _ _ (cc) c.if-self-out.false c.in-Measure.is c.list_text.ensures.value
 
 pub returns-in-Write-clause-value : goal.returns-in-Write-clause-value
-returns-in-Write-clause-value c = emit_on _ _ _ _ _ _ (cc) c.if-self-out.false c.in-Write.is c.write.ensures.value
+returns-in-Write-clause-value c = emit_on _ _ _ _ _ _ (cc) c.if-self-out.false c.in-Write.is c.list_text-in-Write.ensures.value
