@@ -29,10 +29,6 @@ with_digit v b = v * 10 + (b - 48)
 unfoldable pub goes_on : ℕ → ℕ → Bool
 goes_on v b = is_digit b && ltb 0 v && leb (with_digit v b) 65535
 
--- the number with that digit, if it goes on with it
-abbrev pub more : ℕ → ℕ → Option ℕ
-more v b = cond (goes_on v b) (Some (with_digit v b)) None
-
 -- what a field is whose digits make v so far and whose other bytes, from place `at` on, are these
 unfoldable pub rest_in : ℕ → ℕ → ℕ → List ℕ → Option (ℕ × ℕ)
 rest_in end v at [] = None

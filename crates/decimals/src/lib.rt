@@ -7,49 +7,56 @@ ghost use Rattle.decimals.specs.Decimals.{
   width_of,
   digits_of,
   field_of,
-  more,
+  is_digit,
+  goes_on,
   rest_of,
   field_at,
 };
 
-// The number v with one more digit b, if v goes on with it.
-#[tactic(auto, using(crate::proofs::ReadBack::reads), unfolding(crate::specs::Decimals::goes_on, crate::specs::Decimals::is_digit))]
-fn with_digit(v: u16, b: u8) -> Option<u16>
-    ensures { result ≡ more v b }
+#[tactic(auto, unfolding(crate::specs::Decimals::is_digit))]
+fn is_digit(b: u8) -> bool
+    ensures { result ≡ is_digit b }
 {
-    if v == 0 || !b.is_ascii_digit() {
-        return None;
-    }
-    v.checked_mul(10)?.checked_add(u16::from(b - b'0'))
+    b'0' <= b && b <= b'9'
+}
+
+#[tactic(auto, using(crate::specs::Laws::digit_is), unfolding(crate::specs::Decimals::goes_on))]
+fn goes_on(v: usize, b: u8) -> bool
+    requires { v ≤ 65535 }
+    ensures { result ≡ goes_on v b }
+{
+    is_digit(b) && 0 < v && v * 10 + usize::from(b - b'0') <= 65535
 }
 
 // The field whose digits before place make v.
+// kept: tests and adds in usize. `checked_mul` and `checked_add` of a u16 were tried: the log of a 64 KiB schedule takes 8 to 10 in 100
+// more instructions (docs/SPEED.md, "The program").
 #[tactic(auto, using(crate::proofs::ReadBack::reads))]
-fn read_rest(text: &[u8], place: usize, end: u8, v: u16) -> Option<(u16, usize)>
-    requires { place ≤ length text.now }
+fn read_rest(text: &[u8], place: usize, end: u8, v: usize) -> Option<(u16, usize)>
+    requires { (place ≤ length text.now) × (v ≤ 65535) }
     ensures { result ≡ rest_of end text.now v place }
 {
     let mut n = v;
     for at in place..text.len() {
         let b = text[at];
-        let Some(more) = with_digit(n, b) else {
-            return (b == end).then_some((n, at + 1));
-        };
-        n = more;
+        if !goes_on(n, b) {
+            return (b == end).then_some((n as u16, at + 1));
+        }
+        n = n * 10 + usize::from(b - b'0');
     }
     None
 }
 
 // The number whose digits stand at a place, with the place after the byte that ends it.
-#[tactic(auto, using(crate::proofs::ReadBack::reads), unfolding(crate::specs::Decimals::is_digit))]
+#[tactic(auto, using(crate::proofs::ReadBack::reads))]
 pub fn read_field(text: &[u8], place: usize, end: u8) -> Option<(u16, usize)>
     ensures { result ≡ field_at end text.now place }
 {
     let b = *text.get(place)?;
-    if !b.is_ascii_digit() {
+    if !is_digit(b) {
         return None;
     }
-    read_rest(text, place + 1, end, u16::from(b - b'0'))
+    read_rest(text, place + 1, end, usize::from(b - b'0'))
 }
 
 // How many digits n has.

@@ -107,10 +107,8 @@ pub fn run_level(t: &mut [u16], s: Sizes, l: Level, budget: u16) -> Ran
         }
     }
     words::write_frame(t, s, l, with_steps(f, first, budget));
-    Ran {
-        steps: budget,
-        why: Why::Spent,
-    }
+    let why = Why::Spent;
+    Ran { steps: budget, why }
 }
 
 // What a run of one step says of its step.

@@ -1,13 +1,14 @@
 -- What the proofs of reading cite.
-use Rattle.std.specs.Prelude.{ℕ, ◌+◌, ◌-◌, ◌≤◌, ◌<◌, ◌≡◌, refl, List, [], ◌∷◌, ◌++◌, Bool, true, false, ◌&&◌, ◌||◌, length, get_or, take, eqb, leb, ltb, count_by, ◌==◌, cond}
-use Rattle.std.proofs.Common.{ap, arith, add-one, take-suc, take_all, ltb-true, ltb-false, ne_eqb, zero-add}
+use Rattle.std.specs.Prelude.{ℕ, ◌+◌, ◌-◌, ◌≤◌, ◌<◌, ◌≡◌, refl, List, [], ◌∷◌, ◌++◌, Bool, true, false, ◌&&◌, ◌||◌, length, get_or, take, drop, eqb, leb, ltb, count_by, ◌==◌, cond, None}
+use Rattle.std.proofs.Common.{ap, ◌∙◌, arith, add-one, take-suc, take_all, get_or-drop, length-drop, ltb-true, ltb-false, ne_eqb, zero-add}
 use Rattle.std.proofs.lemmas.Bool.{false≢true}
 use Rattle.std.proofs.lemmas.Bool.Decides.{nat_tests}
 use Rattle.std.proofs.lemmas.List.Recursion.{is_count_by}
 use Rattle.std.proofs.Math.ListN.{get_or-eq_default}
+use Rattle.heads.specs.Heads.{begins, stands_at}
 use Rattle.text.specs.Answer.{Answer, gives, refuses, onto}
-use Rattle.text.specs.Text.{lf, longest}
-use Rattle.text.specs.Reading.{lfs, line_starts}
+use Rattle.text.specs.Text.{lf, space, longest}
+use Rattle.text.specs.Reading.{lfs, line_starts, event_in, enqueue_in, dequeue_in, steps_in}
 
 lfs_append : (s t : List ℕ) → lfs (s ++ t) ≡ lfs s + lfs t
 unfolding lfs
@@ -45,6 +46,29 @@ starts_in text place e = by (leb (length text) longest) (ltb (length text) place
         let n : eqb place 0 ≡ false = ne_eqb place 0 (omega arith) in
         let z : ◌≡◌ {A = Bool} false true = (rw (n, past_end text place h) at g) in absurd (false≢true z)
     by false true f g = absurd (false≢true g)
+
+-- a word of two bytes stands at a place
+two_begin : (a b : ℕ) (s : List ℕ) → begins (a ∷ b ∷ []) s ≡ (leb 2 (length s) && (eqb (get_or s 0 0) a && eqb (get_or s 1 0) b))
+unfolding begins
+two_begin a b [] = refl
+two_begin a b (x ∷ []) = grind (arith, nat_tests)
+two_begin a b (x ∷ (y ∷ s)) = grind (arith, nat_tests)
+
+-- the same of the text's bytes
+abbrev pub two : ℕ → List ℕ → ℕ → Bool
+two a text place = leb (place + 2) (length text) && (eqb (get_or text place 0) a && eqb (get_or text (place + 1) 0) space)
+
+two_stand : (a : ℕ) (text : List ℕ) (place : ℕ) → stands_at (a ∷ space ∷ []) text place ≡ two a text place
+unfolding stands_at
+two_stand a text place =
+    two_begin a space (drop place text) ∙ rw (get_or-drop, get_or-drop, length-drop) (grind (arith, nat_tests))
+
+-- the event at a place, by the two bytes there
+pub event_told : (text : List ℕ) (place : ℕ) → event_in text place
+    ≡ cond (two 69 text place) (enqueue_in text (place + 2))
+    (cond (two 68 text place) (dequeue_in text (place + 2)) (cond (two 83 text place) (steps_in text (place + 2)) None))
+unfolding event_in
+event_told text place = rw (two_stand 69 text place, two_stand 68 text place, two_stand 83 text place)
 
 pub ruleset starts = (nat_tests, past_end, starts_in)
 

@@ -109,19 +109,15 @@ fn steps_in(text: &[u8], at: usize) -> Option<(Event, usize)>
 }
 
 // The event of a line that starts at a place, with the place after the line.
-#[tactic(auto, unfolding(crate::specs::Reading::event_in))]
 fn event_in(text: &[u8], place: usize) -> Option<(Event, usize)>
     requires { place ≤ length text.now }
     ensures { result ≡ event_in text.now place }
 {
-    if heads::stands_at(text, place, b"E ") {
-        enqueue_in(text, place + 2)
-    } else if heads::stands_at(text, place, b"D ") {
-        dequeue_in(text, place + 2)
-    } else if heads::stands_at(text, place, b"S ") {
-        steps_in(text, place + 2)
-    } else {
-        None
+    match &text[place..] {
+        [b'E', SPACE, ..] => enqueue_in(text, place + 2),
+        [b'D', SPACE, ..] => dequeue_in(text, place + 2),
+        [b'S', SPACE, ..] => steps_in(text, place + 2),
+        _ => None,
     }
 }
 
