@@ -52,12 +52,14 @@ use std::marker::Model;
 use words::{Queue, Sizes};
 
 // Ends what the dequeues returned, and each queue's nodes; no node has this number.
+// kept: a number among the nodes' numbers, since a key is made of both (`key_of`, `same_key`).
 const MARK: u16 = 65535;
 
 // So many outcomes are kept; the schedules of all others are counted together.
 const KEPT: usize = 1024;
 
 // How many outcomes are kept and the schedules of the others; then for each one its schedules and the four words of its key.
+// kept: words of a slice, which `tries::tally_schedules` is lent and `tallied` speaks of.
 pub const TALLIES: usize = 5122;
 
 // Room that is enough for the lines of any tallies.
