@@ -9,24 +9,21 @@ const ROOM: usize = 4040000;
 
 const LARGE_ROOM: usize = 16777216;
 
-const OUTCOMES_ROOM: usize = outcomes::LINES;
-
-// Prints the answer from so much room, which is not laid into main: in all but the large one a stack of 8 MB is enough.
+// Prints the schedules from so much room, which is not laid into main: in all but the large one a stack of 8 MB is enough.
 #[inline(never)]
-fn print_from<const N: usize>(rt: &HostRuntime, text: &[u8], asked: Asked) -> Result<(), NoRoom>
+fn print_from<const N: usize>(rt: &HostRuntime, text: &[u8], bound: u32) -> Result<(), NoRoom>
     requires { N ≤ 16777216 }
 {
     let mut room = [0u8; N];
-    trying::print_answer(rt, text, asked, &mut room)
+    trying::print_answer(rt, text, Asked::Schedules(bound), &mut room)
 }
 
 // So many texts as need no more than the small room are not tried in the large one first.
 fn list(rt: &HostRuntime, text: &[u8], bound: u32) -> Result<(), NoRoom> {
-    let asked = Asked::Schedules(bound);
-    if bound <= 20000 && print_from::<ROOM>(rt, text, asked).is_ok() {
+    if bound <= 20000 && print_from::<ROOM>(rt, text, bound).is_ok() {
         return Ok(());
     }
-    print_from::<LARGE_ROOM>(rt, text, asked)
+    print_from::<LARGE_ROOM>(rt, text, bound)
 }
 
 fn answer(rt: &HostRuntime, text: &[u8]) {
@@ -39,11 +36,7 @@ fn answer(rt: &HostRuntime, text: &[u8]) {
                 );
             }
         }
-        Some(Asked::Outcomes) => {
-            if print_from::<OUTCOMES_ROOM>(rt, text, Asked::Outcomes).is_err() {
-                streams::say(rt, b"bench: the outcomes do not fit the room\n");
-            }
-        }
+        Some(Asked::Outcomes) => trying::print_outcomes(rt, text),
         None => streams::say(rt, b"bench: tries takes -n and a number, or -c\n"),
     }
 }

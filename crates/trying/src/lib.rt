@@ -178,3 +178,12 @@ pub fn print_answer(
     }
     Ok(())
 }
+
+// Prints how many schedules there are, and their outcomes, from a room of its own, which is enough.
+#[inline(never)]
+pub fn print_outcomes(rt: &HostRuntime, text: &[u8]) {
+    let mut room = [0u8; outcomes::LINES];
+    if print_answer(rt, text, Asked::Outcomes, &mut room).is_err() {
+        streams::say(rt, b"bench: the outcomes do not fit the room\n");
+    }
+}
