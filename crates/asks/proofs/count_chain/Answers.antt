@@ -4,9 +4,6 @@ use Rattle.words.specs.Laws.{Bound, has_is}
 use Rattle.asks.specs.Laws.{counting_long, counting_above, counting_ended, counting_more}
 use Rattle.asks.proofs.count_chain.Goals as goal
 
-pub loop-init : goal.loop-init
-loop-init c = (search rules, record { is = rw sub-zero refl })
-
 pub returns-then-c-eq0 : goal.returns-then-c-eq0
 returns-then-c-eq0 c = counting_ended c.loop.invariant.1 c.if-c-eq0.true
 

@@ -3,9 +3,6 @@ use Rattle.std.proofs.Math.Nat.{sub-zero}
 use Rattle.asks.specs.Laws.{writing_ended, writing_done, goes}
 use Rattle.asks.proofs.write_chain.Goals as goal
 
-pub loop-init : goal.loop-init
-loop-init c = (refl, rw sub-zero (record { fits = c.requires.room_for; is = refl }))
-
 pub returns-then-c-eq0 : goal.returns-then-c-eq0
 returns-then-c-eq0 c = writing_ended c.loop.invariant.1 c.if-c-eq0.true
 
