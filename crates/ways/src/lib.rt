@@ -9,8 +9,8 @@ use answers::Why;
 use words::{Level, Node, Queue, Sizes};
 
 // An operation: op 1 is an enqueue, op 2 with node 0 a dequeue; any other is never accepted.
-// kept: op is a number, as in the words that C lends. One that is none has a level, a queue and a node too, of which `op_event` speaks, and
-// with it what entries promises of any words: an enum would need a third variant with all four.
+// kept: op is a number, as in the words that C lends. One that is none has a level, a queue and a node too, of which `op_event` speaks,
+// and with it what entries promises of any words: an enum would need a third variant with all four.
 #[derive(Clone, Copy)]
 pub struct Op {
     pub op: u16,
@@ -33,8 +33,8 @@ pub fn op_in(ops: &[u16], i: usize) -> Op
     }
 }
 
-// kept: a table and its sizes are two parameters, as in steps and begins. In a struct of both, each contract of the search would have to say
-// that the sizes are those that are asked, of which it now makes them.
+// kept: a table and its sizes are two parameters, as in steps and begins. In a struct of both, each contract of the search would have to
+// say that the sizes are those that are asked, of which it now makes them.
 
 // Whether the operation would be accepted.
 #[tactic(auto, using(crate::specs::Calls::may))]
