@@ -7,7 +7,7 @@ ghost use Rattle.answers.specs.Said.{number};
 use words::{Level, Node, Queue};
 
 // Why a call is refused: document 01's refusals 1 to 12 and 14 in their order. Refusal 13, of a text, has a line and no number.
-#[derive(Clone, Copy, PartialEq, Eq)]
+#[derive(Clone, Copy, Debug, PartialEq, Eq)]
 pub enum Refusal {
     Table,
     Sizes,
@@ -46,8 +46,9 @@ impl From<Refusal> for u16 {
     }
 }
 
-// An operation that ended: op 1 or 2, its node, 0 for empty, and its steps. Kept numbers: they are the frame's own words, and go as they are
-// into the log and to C; an enum and an Option between would be made in one place and unmade in three.
+// An operation that ended: op 1 or 2, its node, 0 for empty, and its steps.
+// kept: numbers, since they are the frame's own words and go to C as they are; an enum and an Option between would be made in one place and
+// unmade in three.
 #[derive(Clone, Copy)]
 pub struct End {
     pub op: u16,

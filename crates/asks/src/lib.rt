@@ -41,6 +41,7 @@ fn weight_of(q: Queue, c: Node) -> u16
 }
 
 // How many nodes the chain has but the sentinel, or none where it is one of refusal 10: a link past the table's nodes, or more links.
+// kept: t and s beside each other, as in words.
 fn count_chain(t: &[u16], s: Sizes, q: Queue, head: Node) -> Option<u16>
     requires { Fits s t.now }
     ensures { result ≡ counted 0 (chain s t.now q.0 s.nodes head.0) }
@@ -61,6 +62,8 @@ fn count_chain(t: &[u16], s: Sizes, q: Queue, head: Node) -> Option<u16>
 }
 
 // Puts node c at place i, unless it is the sentinel, and answers the next place.
+// kept: the next place is answered: of the nodes one may be the sentinel, which takes no place. Links are numbers in lent words, which C
+// lends too.
 #[tactic(auto, unfolding(crate::specs::Inner::weight, crate::specs::Inner::put))]
 fn put_node(room: &mut [u16], i: usize, q: Queue, c: Node) -> usize
     requires { i + weight q.0 c.0 ≤ length room.old }

@@ -10,10 +10,12 @@ use answers::Refusal;
 use table::Point;
 use words::{Frame, Level, Node, Queue, Sizes, Word};
 
-// An enqueue and a dequeue each have their three functions below: kept apart, since they share the order of the calls alone, and one
-// function that takes the others as closures would be longer than the two.
+// An enqueue and a dequeue each have their three functions below: kept apart, since they share three tests and the order of the calls, and
+// one function that takes the others as closures would be longer than the two. Level, queue and node are three parameters, as document 01's
+// calls have them.
 
 // The frame of an operation that begins.
+// kept: op and point are numbers, as in words::Frame.
 fn begin_frame(op: u16, point: u16, q: Queue, n: Node) -> Frame
     ensures { result ≡ begun_at op point q n }
 {
@@ -27,6 +29,7 @@ fn begin_frame(op: u16, point: u16, q: Queue, n: Node) -> Frame
 }
 
 // The first refusal of an enqueue, if there is one.
+// kept: t and s beside each other, as in words.
 #[tactic(auto, using(conditions::specs::Laws::has_node), unfolding(crate::specs::Begin::enqueue_why))]
 pub fn enqueue_why(t: &[u16], s: Sizes, l: Level, q: Queue, n: Node) -> Result<(), Refusal>
     requires { Fits s t.now }
@@ -51,6 +54,7 @@ pub fn enqueue_why(t: &[u16], s: Sizes, l: Level, q: Queue, n: Node) -> Result<(
 }
 
 // Begins an enqueue that is not refused, on a table that was measured.
+// kept: op and point are numbers, as in words::Frame.
 #[tactic(auto, using(crate::specs::Laws::enqueues), unfolding(crate::specs::Begin::unless, crate::specs::Begin::enqueue_sized))]
 pub fn put_enqueue(t: &mut [u16], s: Sizes, l: Level, q: Queue, n: Node)
     requires fits { Fits s t.old }
@@ -103,6 +107,7 @@ pub fn dequeue_why(t: &[u16], s: Sizes, l: Level, q: Queue) -> Result<(), Refusa
 }
 
 // Begins a dequeue that is not refused, on a table that was measured.
+// kept: op and point are numbers, as in words::Frame.
 #[tactic(auto, using(crate::specs::Laws::dequeues), unfolding(crate::specs::Begin::unless, crate::specs::Begin::dequeue_sized))]
 pub fn put_dequeue(t: &mut [u16], s: Sizes, l: Level, q: Queue)
     requires fits { Fits s t.old }

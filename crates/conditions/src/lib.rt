@@ -20,6 +20,7 @@ ghost use Rattle.conditions.specs.Conditions.{
 use words::{Frame, Level, Node, Queue, Sizes, Word};
 
 // What is sought among the frames: one that runs, one that runs on a queue, a dequeue of a queue.
+// kept: an enum and no closure: the definitions sought and some, of which the refusals are made, speak of it.
 #[derive(Clone, Copy)]
 pub enum Sought {
     Running,
@@ -27,6 +28,7 @@ pub enum Sought {
     DequeueOn(Queue),
 }
 
+// kept: op is a number, as in words::Frame.
 #[tactic(auto, unfolding(crate::specs::Conditions::sought))]
 fn is_sought(w: Sought, f: Frame) -> bool
     ensures { result ≡ sought w f }
@@ -39,6 +41,7 @@ fn is_sought(w: Sought, f: Frame) -> bool
 }
 
 // Whether one of the levels from..to has a frame that is sought.
+// kept: t and s beside each other, as in words.
 fn some_level(t: &[u16], s: Sizes, w: Sought, from: usize, to: usize) -> bool
     requires fits { Fits s t.now }
     requires to_le_levels { to ≤ s.levels }

@@ -24,6 +24,7 @@ impl Header {
     }
 }
 
+// kept: what is no digit counts as 0, as the program did on every input.
 fn digit(b: u8) -> usize
     ensures { result ≤ 9 }
 {
@@ -58,6 +59,7 @@ struct Desk {
 
 impl Desk {
     // Reads n bytes, if the text has room for them, and answers how many there were.
+    // kept: a schedule that is too long is run as an empty one, as the program did on every input.
     fn read_text(&mut self, rt: &HostRuntime, n: usize) -> io::Result<usize>
         ensures { IfOk result (λ n. n ≤ 65537) }
     {

@@ -1,19 +1,13 @@
 -- Reading a field and writing one are inverse: `field_reads` of proofs/ReadBack and `field_written`.
 use Rattle.std.specs.Prelude.{ℕ, zero, suc, ◌+◌, ◌-◌, ◌*◌, ◌/◌, ◌%◌, ◌≤◌, ◌<◌, ◌≡◌, refl, ◌⊎◌, List, [], ◌∷◌, ◌++◌, Bool, true, false, cond, length, drop, ltb, Some}
-use Rattle.std.proofs.Common.{sym, ap, ◌∙◌, inl, inr, append_assoc, arith, add-one, ltb-true, ltb-false, lt-ltb, le-ltb, le-leb, eq-eqb}
+use Rattle.std.proofs.Common.{sym, ap, ◌∙◌, inl, inr, append_assoc, arith, add-one, lt-ltb, le-ltb, le-leb, eq-eqb}
+use Rattle.std.proofs.lemmas.Bool.{cases_lt}
 use Rattle.decimals.specs.Decimals.{width_of, last_digits, digits_of, field_of, is_digit, with_digit, goes_on, rest_in, field_in, field_at}
 use Rattle.decimals.specs.Laws.{digits_one, length_field, Digit}
 
-below? : (a b : ℕ) → (a < b) ⊎ (b ≤ a)
-below? a b = by (ltb a b) refl
-  where
-    by : (t : Bool) → ltb a b ≡ t → (a < b) ⊎ (b ≤ a)
-    by true e = inl (ltb-true a b e)
-    by false e = inr (ltb-false a b e)
-
 -- two tests that hold and fail together are the same
 same_test : (a b c d : ℕ) → (a < b → c < d) → (b ≤ a → d ≤ c) → ltb a b ≡ ltb c d
-same_test a b c d f g = by (below? a b)
+same_test a b c d f g = by (cases_lt a b)
   where
     by : (a < b) ⊎ (b ≤ a) → ltb a b ≡ ltb c d
     by (inl h) = lt-ltb a b h ∙ sym (lt-ltb c d (f h))
@@ -69,7 +63,7 @@ run_more end at v b t d ih =
 
 field_run : (k end at n : ℕ) (t : List ℕ) → n ≤ k → n ≤ 65535 → Run end at n t
 field_run zero end at n t h top = run_one end at n t (omega arith)
-field_run (suc k) end at n t h top = by (below? n 10) (field_run k end at (n / 10) ((48 + n % 10) ∷ t))
+field_run (suc k) end at n t h top = by (cases_lt n 10) (field_run k end at (n / 10) ((48 + n % 10) ∷ t))
   where
     by : (n < 10) ⊎ (10 ≤ n) → (n / 10 ≤ k → n / 10 ≤ 65535 → Run end at (n / 10) ((48 + n % 10) ∷ t)) → Run end at n t
     by (inl q) ih = run_one end at n t q

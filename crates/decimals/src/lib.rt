@@ -17,7 +17,7 @@ ghost use Rattle.decimals.specs.Decimals.{
 fn is_digit(b: u8) -> bool
     ensures { result ≡ is_digit b }
 {
-    b'0' <= b && b <= b'9'
+    b.is_ascii_digit()
 }
 
 #[tactic(auto, using(crate::specs::Laws::digit_is), unfolding(crate::specs::Decimals::goes_on))]
@@ -30,7 +30,7 @@ fn goes_on(v: usize, b: u8) -> bool
 
 // The field whose digits before place make v.
 // kept: tests and adds in usize. `checked_mul` and `checked_add` of a u16 were tried: the log of a 64 KiB schedule takes 8 to 10 in 100
-// more instructions (docs/SPEED.md, "The program").
+// more instructions.
 #[tactic(auto, using(crate::proofs::ReadBack::reads))]
 fn read_rest(text: &[u8], place: usize, end: u8, v: usize) -> Option<(u16, usize)>
     requires { (place ≤ length text.now) × (v ≤ 65535) }
@@ -60,6 +60,7 @@ pub fn read_field(text: &[u8], place: usize, end: u8) -> Option<(u16, usize)>
 }
 
 // How many digits n has.
+// kept: width and digits by hand, and no Display or itoa: those write all digits of a number, and digits_of has five at most.
 #[tactic(auto, unfolding(crate::specs::Decimals::width_of))]
 pub fn width(n: usize) -> usize
     ensures { result ≡ width_of n }

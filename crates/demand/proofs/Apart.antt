@@ -43,7 +43,7 @@ own_use Q u q x h e = by (ltb Q x) (lt-ltb Q x h) e
   where
     by : (b : Bool) → b ≡ true → cond b (hit (eqb (u x) q)) (hit (eqb x q)) ≡ 1 → u x ≡ q
     by true t e = hit_one (u x) q e
-    by false t e = let z : ◌≡◌ {A = ℕ} 0 1 = cc in absurd (omega arith)
+    by false t e = cc
 
 -- a use word that named another queue or none, and does so again, makes no node a queue's
 pub own_put : (Q : ℕ) (u : ℕ → ℕ) (q n v : ℕ) → u n ≢ q → v ≢ q → (x : ℕ) → own Q (put u n v) q x ≡ own Q u q x

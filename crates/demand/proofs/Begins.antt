@@ -45,7 +45,7 @@ none_of s t w i (suc n) h j a b = by (sought w (frame_of s t (level i))) refl h 
     by : (x : Bool) → sought w (frame_of s t (level i)) ≡ x → (x || some s t w (i + 1) n) ≡ false
         → (some s t w (i + 1) n ≡ false → (j : ℕ) → i + 1 ≤ j → j < i + 1 + n → sought w (frame_of s t (level j)) ≡ false)
         → (c : Bool) → Same j i c → sought w (frame_of s t (level j)) ≡ false
-    by true e h ih c z = let z : ◌≡◌ {A = ℕ} 0 1 = cc in absurd (omega arith)
+    by true e h ih c z = cc
     by false e h ih true (same z) = rw z e
     by false e h ih false (apart z) = ih h j (omega arith) (omega arith)
 
@@ -62,7 +62,7 @@ not_running f h = eqb-true f.op 0 (not-false (eqb f.op 0) h)
 
 not_dequeue : (q : Queue) (f : Frame) → sought (DequeueOn q) f ≡ false → f.op ≡ 2 → f.queue.0 ≢ q.0
 unfolding sought
-not_dequeue q f h e k = let z : ◌≡◌ {A = Bool} true false = simp (eq-eqb f.op 2 e, eq-eqb f.queue.0 q.0 k) at h in let y : ◌≡◌ {A = ℕ} 0 1 = cc in omega arith
+not_dequeue q f h e k = let z : ◌≡◌ {A = Bool} true false = simp (eq-eqb f.op 2 e, eq-eqb f.queue.0 q.0 k) at h in cc
 
 -- ---- an accepted begin
 
@@ -74,8 +74,7 @@ accepted why t new u = by (eqb why 0) (same? why 0)
     by true (same e) h = (e, ap (λ (o : Said Unit × List ℕ). o.1) h)
     by false (apart e) h =
         let z : ◌≡◌ {A = Said Unit} (refused why) (says tt) = ap (λ (o : Said Unit × List ℕ). o.0) h in
-        let y : ◌≡◌ {A = ℕ} 0 1 = cc in
-        absurd (omega arith)
+        cc
 
 -- what an accepted enqueue can rely on
 pub record CanEnqueue (s : Sizes) (t : List ℕ) (l : Level) (q : Queue) (n : Node) (u : List ℕ) : Type 0 where

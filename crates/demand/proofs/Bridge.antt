@@ -93,8 +93,7 @@ same_said {A} {x} {y} {t} {u} e =
 pub no_answer : {A : Type 0} {r : ℕ} {y : A} {t u : List ℕ} → ◌≡◌ {A = Said A × List ℕ} (refused r, t) (says y, u) → ⊥
 no_answer {A} {r} {y} e =
     let z : ◌≡◌ {A = Said A} (refused r) (says y) = ap (λ (o : Said A × List ℕ). o.0) e in
-    let w : ◌≡◌ {A = ℕ} 0 1 = cc in
-    omega arith
+    cc
 
 -- two refusals with different numbers
 pub other_number : {A : Type 0} {a b : ℕ} → ◌≡◌ {A = Said A} (refused a) (refused b) → a ≢ b → ⊥

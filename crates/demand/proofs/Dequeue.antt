@@ -168,7 +168,7 @@ module _ (s : Sizes) (l : ℕ) (low : l < s.levels) where
   step_goes {o} {q} {x} (suc b) t u g h = by (one_more b t g)
     where
       by : OneMore o q x b t → Going o q x (suc b) u
-      by (ends e v k z) = let d = (same_said (sym k ∙ h)).0 in let n : ◌≡◌ {A = ℕ} 0 1 = cc in absurd (omega arith)
+      by (ends e v k z) = let d = (same_said (sym k ∙ h)).0 in cc
       by (goes v k z) = less (subst (Going o q x b) (same_said (sym k ∙ h)).1 z)
 
   accepted_goes : {o : ℕ} {q : Queue} {x : ℕ} (b : ℕ) (t u : List ℕ) (e : Event) → Going o q x b t → Accepted t u e → Uneventful e → Going o q x b u

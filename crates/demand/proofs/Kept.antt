@@ -59,7 +59,7 @@ module _ (s : Sizes) where
       where
         by : Outcome s t fronts → (step_sized s t).0 ≢ refused 10
         by (idle e h) = rw e (λ z. other_number z (omega arith))
-        by (took l x a) = rw a.is (λ z. (let y : ◌≡◌ {A = ℕ} 0 1 = cc in omega arith))
+        by (took l x a) = rw a.is (λ z. (cc))
 
     pub run_unharmed : (budget n : ℕ) → (run_of budget t).0 ≢ says (after n refusal_10)
     run_unharmed budget n =

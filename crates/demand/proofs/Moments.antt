@@ -48,7 +48,7 @@ pub record Nobody (s : Sizes) (t : List ℕ) (q : Queue) : Type 0 where
 
 not_on : (q : Queue) (f : Frame) → sought (RunningOn q) f ≡ false → ¬ On q.0 f
 unfolding sought
-not_on q f h on = let z : ◌≡◌ {A = Bool} true false = simp (ne_eqb f.op 0 on.0, eq-eqb f.queue.0 q.0 on.1) at h in let y : ◌≡◌ {A = ℕ} 0 1 = cc in omega arith
+not_on q f h on = let z : ◌≡◌ {A = Bool} true false = simp (ne_eqb f.op 0 on.0, eq-eqb f.queue.0 q.0 on.1) at h in cc
 
 nobody_on : (s : Sizes) (t : List ℕ) (q : Queue) → within 1 s.queues q.0 ≡ true → unquiet s t q ≡ false → Nobody s t q
 unfolding unquiet
@@ -73,8 +73,8 @@ tested s t q m h = by (within 1 s.queues q.0) (unquiet s t q) (rw m at h)
   where
     by : (a b : Bool) → ◌≡◌ {A = Said Bool} (cond (not a) (refused 4) (says (not b))) (says true) → (a ≡ true) × (b ≡ false)
     by true false e = (refl, refl)
-    by true true e = let z : ◌≡◌ {A = ℕ} 0 1 = cc in absurd (omega arith)
-    by false b e = let z : ◌≡◌ {A = ℕ} 0 1 = cc in absurd (omega arith)
+    by true true e = cc
+    by false b e = cc
 
 pub quietly : (s : Sizes) (t : List ℕ) (q : Queue) → measured t ≡ Some s → QuietAt t q → Nobody s t q
 quietly s t q m h = let b = tested s t q m h in nobody_on s t q b.0 b.1
@@ -205,7 +205,7 @@ module _ (s : Sizes) (t : List ℕ) (fronts : ℕ → List ℕ) (m : measured t 
     where
       by : (b : Bool) → ◌≢◌ {A = Said ℕ} (cond {A = Said ℕ × List ℕ} b (refused 12, room) (says (length (still_in s t q)), still_in s t q ++ drop (length (still_in s t q)) room)).0 (refused 10)
       by true e = other_number e (omega arith)
-      by false e = let z : ◌≡◌ {A = ℕ} 0 1 = cc in omega arith
+      by false e = cc
 
 -- a listing is never refused with 10
 pub listing_unharmed : (s : Sizes) (t : List ℕ) (fronts : ℕ → List ℕ) → measured t ≡ Some s → World s (state_of s t) fronts

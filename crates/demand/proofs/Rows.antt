@@ -150,8 +150,8 @@ Still f g = (g.op ≡ f.op) × (g.queue ≡ f.queue) × (g.steps ≡ f.steps)
 -- a frame that goes on has its op and queue still, and has counted the step
 plain_go : (p : Point) (f g : Frame) (a : After) → Plain p f a → a ≡ Go g → Still f g
 plain_go p f g a (goes {g = h} o q n) e = let z : h ≡ g = cc in (rw (← z) o, rw (← z) q, rw (← z) n)
-plain_go p f g a (empty d n) e = let z : ◌≡◌ {A = ℕ} 0 1 = cc in absurd (omega arith)
-plain_go p f g a (handed o n) e = let z : ◌≡◌ {A = ℕ} 0 1 = cc in absurd (omega arith)
+plain_go p f g a (empty d n) e = cc
+plain_go p f g a (handed o n) e = cc
 
 pub goes_on : (M : Mem) (levels l : ℕ) (f g : Frame) → then M (row_of levels l f) (counted f) ≡ Go g
     → (g.op ≡ f.op) × (g.queue ≡ f.queue) × (g.steps ≡ (counted f).steps)
@@ -162,7 +162,7 @@ goes_on M levels l f g e =
     by : (x : Row) → Plainly (point_of (counted f).point) (counted f) x → then M x (counted f) ≡ Go g → Still (counted f) g
     by x (load {w = w} h) e = plain_go (point_of (counted f).point) (counted f) g _ (h (look M w)) e
     by x (store h) e = plain_go (point_of (counted f).point) (counted f) g _ h e
-    by x (free d c) e = let z : ◌≡◌ {A = ℕ} 0 1 = cc in absurd (omega arith)
+    by x (free d c) e = cc
     by x none e = plain_go (point_of (counted f).point) (counted f) g _ (goes refl refl refl) e
 
 -- ---- the point of a number
@@ -178,11 +178,11 @@ in_number (y ∷ ys) n x e ne = by (eqb n (number_of y)) (same? n (number_of y))
 -- a number that stands for D7 is D7's
 pub number_d7 : (n : ℕ) → point_of n ≡ point.D7 → n ≡ 37
 unfolding point_of
-number_d7 n e = in_number points n point.D7 e (λ z. (let w : ◌≡◌ {A = ℕ} 0 1 = cc in omega arith))
+number_d7 n e = in_number points n point.D7 e (λ z. (cc))
 
 number_d3 : (n : ℕ) → point_of n ≡ point.D3 → n ≡ number_of point.D3
 unfolding point_of
-number_d3 n e = in_number points n point.D3 e (λ z. (let w : ◌≡◌ {A = ℕ} 0 1 = cc in omega arith))
+number_d3 n e = in_number points n point.D3 e (λ z. (cc))
 
 -- D3 goes on where the node has a next
 pub d3_goes : (M : Mem) (levels l : ℕ) (f : Frame) → f.point ≡ number_of point.D3 → M.next f.c.0 ≢ 0
@@ -196,7 +196,7 @@ d3_goes M levels l f p h =
 
 -- a dequeue ends empty at D2 and D3 alone
 plain_empty : (p : Point) (f : Frame) (a : After) (n : Node) → Plain p f a → a ≡ Done n → f.op ≡ 2 → (p ≡ point.D2) ⊎ (p ≡ point.D3)
-plain_empty p f a n (goes o q i) e two = let z : ◌≡◌ {A = ℕ} 0 1 = cc in absurd (omega arith)
+plain_empty p f a n (goes o q i) e two = cc
 plain_empty p f a n (empty d z) e two = d
 plain_empty p f a n (handed o z) e two = absurd (omega arith)
 
@@ -218,8 +218,7 @@ d2_ends M levels l f n p e = by (eqb (M.tail f.queue.0) f.c.0) (same? (M.tail f.
     by true (same h) k = h
     by false (apart h) k =
         let goes = sym (if_other (M.tail f.queue.0) f.c.0 _ _ h) ∙ k in
-        let no : ◌≡◌ {A = ℕ} 0 1 = cc in
-        absurd (omega arith)
+        cc
 
 -- a dequeue that ends empty, at a node c that D3 would find linked: it is at D2, tail is c, and memory stays as it is
 pub ends_empty : (s : Sizes) (q levels l : ℕ) (S : State) (f : Frame) (n : Node) → Within s q S (row_of levels l f) → f.op ≡ 2
@@ -238,5 +237,4 @@ ends_empty s q levels l S f n inside two linked e z =
     by (inr p) =
         let at_d3 = number_d3 f.point p in
         let goes = sym (d3_goes S.mem levels l f at_d3 (linked at_d3)) ∙ e in
-        let no : ◌≡◌ {A = ℕ} 0 1 = cc in
-        absurd (omega arith)
+        cc

@@ -4,7 +4,6 @@ use Prim.Native.Nat.{ℕ, zero, suc, ◌+◌}
 use mathlib.Core.Path.{◌≡◌, refl}
 use mathlib.Core.Logic.{◌≢◌}
 use mathlib.Core.List.{List, []}
-use native.Mathlib.Omega.{arith}
 use Rattle.words.specs.declared.Sizes.{Sizes}
 use Rattle.words.specs.Layout.{measured}
 use Rattle.answers.specs.Said.{Said, says, going_on, ended, Run, after, an_end, spent, nothing_runs, refusal_10}
@@ -29,7 +28,7 @@ module _ (s : Sizes) where
       → RunKept t fronts (run_from s budget n t)
   unfolding run_from ran_on
   run_kept zero n t fronts m w =
-      record { said = after n spent; table = t; is = refl; keeps = keeps_same s t fronts m w; unharmed = λ k e. (let z : ◌≡◌ {A = ℕ} 0 1 = cc in omega arith) }
+      record { said = after n spent; table = t; is = refl; keeps = keeps_same s t fronts m w; unharmed = λ k e. (cc) }
   run_kept (suc budget) n t fronts m w = by (step_taken s t fronts m w) (run_kept budget (n + 1))
     where
       Rest : Type 0
@@ -42,7 +41,7 @@ module _ (s : Sizes) where
             table = t;
             is = rw e;
             keeps = keeps_same s t fronts m w;
-            unharmed = λ k z. (let z : ◌≡◌ {A = ℕ} 0 1 = cc in omega arith);
+            unharmed = λ k z. (cc);
           }
       by (took l going_on a) on =
           let k = a.keeps in
@@ -60,5 +59,5 @@ module _ (s : Sizes) where
             table = a.table;
             is = rw a.is;
             keeps = a.keeps;
-            unharmed = λ k z. (let z : ◌≡◌ {A = ℕ} 0 1 = cc in omega arith);
+            unharmed = λ k z. (cc);
           }

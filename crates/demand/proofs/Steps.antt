@@ -96,7 +96,7 @@ serves_at s t n l e = by (serving s t n) (served s t n) e
   where
     by : (v : Option Level) → Serves s t n v → v ≡ Some l
         → (l.0 < n) × ((frame_of s t l).op ≢ 0) × ((j : ℕ) → l.0 < j → j < n → (frame_of s t (level j)).op ≡ 0)
-    by v (nobody h) e = let z : ◌≡◌ {A = ℕ} 0 1 = cc in absurd (omega arith)
+    by v (nobody h) e = cc
     by v (serves k low run top) e = let z : level k ≡ l = cc in rw (← z) (low, run, top)
 
 -- ---- what a step returns
@@ -112,7 +112,7 @@ module _ (r : ℕ) (e : End) where
       by true true true h = refl
       by true false true h = refl
       by false b true h = refl
-      by a b false h = let z : ◌≡◌ {A = ℕ} 0 1 = cc in absurd (omega arith)
+      by a b false h = cc
 
   other_queue : e.queue.0 ≢ r → returned_at_end r e ≡ []
   other_queue h = by (eqb e.op 2) (eqb e.queue.0 r) (ne_eqb e.queue.0 r h)
@@ -120,7 +120,7 @@ module _ (r : ℕ) (e : End) where
       by : (a b : Bool) → b ≡ false → cond (a && b && not (eqb e.node.0 0)) (e.node.0 ∷ []) [] ≡ []
       by true false h = refl
       by false b h = refl
-      by true true h = let z : ◌≡◌ {A = ℕ} 0 1 = cc in absurd (omega arith)
+      by true true h = cc
 
   pub its_node : e.op ≡ 2 → e.queue.0 ≡ r → e.node.0 ≢ 0 → returned_at_end r e ≡ e.node.0 ∷ []
   its_node h k n = rw (eq-eqb e.op 2 h, eq-eqb e.queue.0 r k, ne_eqb e.node.0 0 n)

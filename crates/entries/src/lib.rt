@@ -27,6 +27,7 @@ pub struct Schedule<'a> {
 }
 
 // The event that begins the operation.
+// kept: op is a number, as in ways::Op.
 #[tactic(auto, unfolding(crate::specs::Texts::op_event))]
 fn op_event(o: Op) -> Event
     ensures { result ≡ op_event o }
@@ -39,6 +40,7 @@ fn op_event(o: Op) -> Event
 }
 
 // What the S line of so many steps takes; none where there are no steps.
+// kept: no Display, as in lines.
 #[tactic(auto, using(crate::proofs::Entries::no_steps, crate::proofs::Entries::no_steps_text))]
 fn steps_size(c: u16) -> Size
     ensures { (result.events ≡ length (step_events c)) × (result.bytes ≡ length (events_text (step_events c)))
@@ -102,6 +104,7 @@ impl<'a> Schedule<'a> {
         }
     }
 
+    // kept: measured and written in two loops of three lines: one sums two numbers, the other has room for what they say.
     fn write_events(&self, room: &mut [u8], place: usize) -> usize
         requires { place + length (events_text (events_of self.now.path (ops_in self.now.k self.now.ops.now 0))) ≤ length room.old }
         ensures { Put result room.new room.old place (events_text (events_of self.now.path (ops_in self.now.k self.now.ops.now 0))) }

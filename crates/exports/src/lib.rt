@@ -54,6 +54,7 @@ fn pack_done(a: Result<(), Refusal>) -> u32
     a.map_or_else(refused, |()| pack(0, 0))
 }
 
+// kept: the codes that C reads (docs/CALLS.md; specs: step_reply, why_code).
 fn pack_step(a: Result<Option<End>, Refusal>) -> u32
     ensures { result ≡ step_reply (step_says a) }
 {
@@ -64,6 +65,7 @@ fn pack_step(a: Result<Option<End>, Refusal>) -> u32
     }
 }
 
+// kept: the codes that C reads (docs/CALLS.md; specs: why_code).
 fn code_of(why: Why) -> u16
     ensures { result ≡ why_code (why_says why) }
 {
@@ -81,6 +83,7 @@ fn pack_run(a: Result<Ran, Refusal>) -> u32
     a.map_or_else(refused, |ran| pack(ran.steps, code_of(ran.why)))
 }
 
+// kept: the C interface: the five words of an end, in their order.
 fn put_end(end: &mut [u16; 5], e: End)
     ensures { end.new ≡ end_words e }
 {
@@ -136,6 +139,7 @@ pub extern "C" fn exports_begin_dequeue(t: &mut [u16], l: u16, q: u16) -> u32
     pack_done(begins::begin_dequeue(t, Level(l), Queue(q)))
 }
 
+// kept: each call has a name of its own, as C knows it.
 #[unsafe(no_mangle)]
 pub extern "C" fn exports_step(t: &mut [u16], end: &mut [u16; 5]) -> u32
     ensures { step_out (step_of t.old) end.old ≡ (result, (t.new, end.new)) }

@@ -6,13 +6,14 @@ ghost use Rattle.tries.specs.Tries.{tries_of, number_of};
 ghost use Rattle.exporttries.specs.Reply.{packed, tried_out, number_out};
 
 // A value and a code as one number.
-// kept: exports has the same function: it and this crate are static libraries, on which no other crate stands.
+// kept: exports has it too: no crate stands on a static library, and no crate below both speaks of numbers for C (packed).
 fn pack(value: u16, code: u16) -> u32
     ensures { result ≡ packed value code }
 {
     u32::from(value) + 65536 * u32::from(code)
 }
 
+// kept: each call has a name of its own, as C knows it; so in exports.
 #[unsafe(no_mangle)]
 pub extern "C" fn exports_try_schedules(
     levels: u16,

@@ -17,12 +17,13 @@ fn clear(t: &mut [u16], n: usize)
     t[..n].fill(0);
 }
 
+// kept: t and s beside each other, as in words.
 fn put_ends(t: &mut [u16], s: Sizes)
     requires { Fits s t.old }
     ensures { t.new ≡ ended s s.queues t.old }
 {
     for i in 0..s.queues {
-        let q = i as u16 + 1;
+        let q = words::narrow(i) + 1;
         words::store(t, s, Word::Head(Queue(q)), q);
         words::store(t, s, Word::Tail(Queue(q)), q);
     }
@@ -54,6 +55,7 @@ fn fresh_sized(t: &mut [u16], s: Sizes) -> Result<(), Refusal>
 }
 
 // Makes t a fresh table of these sizes.
+// kept: three numbers, as the call for C takes them and hands them on.
 pub fn fresh_table(t: &mut [u16], levels: u16, queues: u16, nodes: u16) -> Result<(), Refusal>
     ensures { fresh_of (record { levels = levels; queues = queues; nodes = nodes }) t.old ≡ (answer_says result, t.new) }
 {

@@ -12,8 +12,8 @@ pub fn stands_at(text: &[u8], place: usize, head: &[u8]) -> bool
 }
 
 // Writes head from place on, and answers the place after it.
-// kept: a room and a place as two parameters, here and in decimals and lines. Methods of a struct of both are no plainer: those of three
-// crates would be needed, and only the crate that declares a struct can give it methods.
+// kept: a room and a place as two parameters, here and in decimals, lines, entries and writing. Methods of a struct of both are no plainer:
+// those of five crates would be needed, and only the crate that declares a struct can give it methods.
 pub fn write_head(room: &mut [u8], place: usize, head: &[u8]) -> usize
     requires { place + length head.now ≤ length room.old }
     ensures { Put result room.new room.old place head.now }

@@ -183,19 +183,19 @@ module _ (s : Sizes) (v : ℕ) (cap : Capped s) where
     then_rests e = subst (λ (K : ℕ → Frame). Move s.levels v F K (steps 1)) e (goes l a g)
 
     of_steps : (k : ℕ) (x : Effect) → x ≡ steps k → Move s.levels v G H x → Move s.levels v F H (steps (1 + k))
-    of_steps k _ e (is_begun i b) = let z : ◌≡◌ {A = ℕ} 0 1 = cc in absurd (omega arith)
+    of_steps k _ e (is_begun i b) = cc
     of_steps k _ e (goes {n = n} i b h) = let z : n ≡ k = cc in rw (← z) (then_goes n i (again F G H l i 1 a g b) b h)
-    of_steps k _ e (stops i b gone x short) = let z : ◌≡◌ {A = ℕ} 0 1 = cc in absurd (omega arith)
+    of_steps k _ e (stops i b gone x short) = cc
     of_steps k _ e (rests y) = let z : 0 ≡ k = cc in rw (← z) (then_rests y)
 
     of_end : (k : ℕ) (d : End) (x : Effect) → x ≡ ends k d → Move s.levels v G H x → Move s.levels v F H (ends (1 + k) d)
-    of_end k d _ e (is_begun i b) = let z : ◌≡◌ {A = ℕ} 0 1 = cc in absurd (omega arith)
-    of_end k d _ e (goes i b h) = let z : ◌≡◌ {A = ℕ} 0 1 = cc in absurd (omega arith)
+    of_end k d _ e (is_begun i b) = cc
+    of_end k d _ e (goes i b h) = cc
     of_end k d _ e (stops {n = n} {e = c} i b gone x short) =
         let z : n ≡ k = cc in
         let y : c ≡ d = cc in
         rw (← z, ← y) (then_stops n c i (again F G H l i 1 a g b) b gone x short)
-    of_end k d _ e (rests y) = let z : ◌≡◌ {A = ℕ} 0 1 = cc in absurd (omega arith)
+    of_end k d _ e (rests y) = cc
 
     then_ran : (k : ℕ) (why : Why) → Move s.levels v G H (ran_for k why) → Move s.levels v F H (ran_for (1 + k) why)
     then_ran k (an_end e) m = of_end k e (ends k e) refl m
@@ -205,10 +205,10 @@ module _ (s : Sizes) (v : ℕ) (cap : Capped s) where
 
   step_ran : (F G H : ℕ → Frame) (k : ℕ) (why : Why) (x : Effect) → x ≡ steps 1 → Move s.levels v F G x
       → Move s.levels v G H (ran_for k why) → Move s.levels v F H (ran_for (1 + k) why)
-  step_ran F G H k why _ e (is_begun i b) m = let z : ◌≡◌ {A = ℕ} 0 1 = cc in absurd (omega arith)
+  step_ran F G H k why _ e (is_begun i b) m = cc
   step_ran F G H k why _ e (goes {n = n} i b h) m = let z : n ≡ 1 = cc in then_ran F G H i b (rw z at h) k why m
-  step_ran F G H k why _ e (stops i b gone x short) m = let z : ◌≡◌ {A = ℕ} 0 1 = cc in absurd (omega arith)
-  step_ran F G H k why _ e (rests y) m = let z : ◌≡◌ {A = ℕ} 0 1 = cc in absurd (omega arith)
+  step_ran F G H k why _ e (stops i b gone x short) m = cc
+  step_ran F G H k why _ e (rests y) m = cc
 
   -- why a run stopped that had so many steps
   abbrev pub Reason : ℕ → List ℕ → ℕ → Why → Type 0

@@ -48,10 +48,10 @@ module _ (s : Sizes) (v : ℕ) (cap : Capped s) where
 
   -- every end is within the bounds
   pub end_short : (F G : ℕ → Frame) (x : Effect) (n : ℕ) (e : End) → x ≡ ends n e → Move s.levels v F G x → InBounds v e
-  end_short F G _ n e z (begun i b) = let y : ◌≡◌ {A = ℕ} 0 1 = cc in absurd (omega arith)
-  end_short F G _ n e z (goes i b g) = let y : ◌≡◌ {A = ℕ} 0 1 = cc in absurd (omega arith)
+  end_short F G _ n e z (begun i b) = cc
+  end_short F G _ n e z (goes i b g) = cc
   end_short F G _ n e z (stops {e = d} i b gone x short) = let y : d ≡ e = cc in rw (← y) short
-  end_short F G _ n e z (rests h) = let y : ◌≡◌ {A = ℕ} 0 1 = cc in absurd (omega arith)
+  end_short F G _ n e z (rests h) = cc
 
   each_call : (P : End → Type 0) (x : Event) (es : List End) → ((n : ℕ) (e : End) → effect x ≡ ends n e → P e) → Each P es
       → Each P (of_call (λ e. e ∷ []) x ++ es)

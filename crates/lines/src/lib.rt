@@ -10,6 +10,8 @@ use text::{Event, LF, Opening, SPACE};
 use words::{Level, Node, Queue};
 
 // How many bytes a number and the byte after it take.
+// kept: no Display of an event or an opening: what is promised here is a line's length before it is written, and where the next begins
+// (Put), and Display tells neither.
 #[tactic(auto, using(crate::specs::Laws::lengths))]
 fn field_length(n: u16) -> usize
     ensures { (result ≡ width_of n + 1) × (result ≤ 6) }
@@ -28,6 +30,7 @@ pub fn event_length(e: Event) -> usize
     }
 }
 
+// kept: three numbers, as an Event has them.
 #[tactic(auto, using(crate::specs::Laws::lengths), unfolding(text::specs::Text::event_text))]
 fn write_enqueue(room: &mut [u8], place: usize, l: Level, q: Queue, n: Node) -> usize
     requires { place + length (event_text (Event.Enqueue l q n)) ≤ length room.old }

@@ -77,6 +77,7 @@ impl Pen<'_> {
     }
 
     // `T line`
+    // kept: a letter and a number, as put_unquiet: two lines of their own each, and a function for both would be no shorter.
     pub fn put_text_refusal(&mut self, line: usize)
         ensures { Writes self.old self.new (text_line line) }
     {
@@ -85,6 +86,7 @@ impl Pen<'_> {
     }
 
     // `R event number`
+    // kept: number is any number: refusal_line is promised of each, and a Refusal would be a narrower type.
     pub fn put_refusal(&mut self, event: u16, number: u16)
         ensures { Writes self.old self.new (refusal_line event number) }
     {
@@ -94,6 +96,7 @@ impl Pen<'_> {
     }
 
     // `E level queue node ` or `D level queue node `
+    // kept: op is a number, as in answers::End.
     fn put_operation(&mut self, e: End)
         ensures { Writes self.old self.new (operation_text e) }
     {
@@ -105,6 +108,7 @@ impl Pen<'_> {
 
     // `E level queue node steps` or `D level queue node steps`; beside an enqueue's steps, if a number of nodes is given, the bound on them
     // in a table of so many
+    // kept: op is a number, as in answers::End.
     pub fn put_end(&mut self, e: End, bound_nodes: Option<u16>)
         ensures { Writes self.old self.new (line_of bound_nodes e) }
     {

@@ -85,6 +85,7 @@ fn write_played(kind: Kind, text: &[u8], place: usize, o: Opening, table: &mut [
             play::play_events(text, place, o.events, table, pen, kind.bound_nodes(o.nodes));
             write_queues(table, pen, o.queues);
         }
+        // kept: document 01 wants the bytes of R 0 2 written as a fixed byte string.
         Err(_) => pen.put(b"R 0 2\n"),
     }
 }

@@ -52,12 +52,14 @@ use std::marker::Model;
 use words::{Queue, Sizes};
 
 // Ends what the dequeues returned, and each queue's nodes; no node has this number.
+// kept: the mark is one of the sixteen numbers of a key in the lent tallies (specs: mark, numbers_text); an Option has no room there.
 const MARK: u16 = 65535;
 
 // So many outcomes are kept; the schedules of all others are counted together.
 const KEPT: usize = 1024;
 
 // How many outcomes are kept and the schedules of the others; then for each one its schedules and the four words of its key.
+// kept: words of a slice, which `tries::tally_schedules` is lent and `tallied` speaks of.
 pub const TALLIES: usize = 5122;
 
 // Room that is enough for the lines of any tallies.
@@ -100,6 +102,7 @@ impl Notes {
     }
 
     // Notes what an operation that ended returned: a dequeue's node, 0 for empty.
+    // kept: op is a number, as in answers::End.
     #[tactic(auto, unfolding(crate::specs::Notes::note, crate::specs::Outcomes::returned))]
     fn put_end(&mut self, e: End)
         ensures { note self.old (returned e) ≡ self.new }
@@ -156,6 +159,7 @@ impl Notes {
                 self.put(*x);
             }
         }
+        // kept: the mark is a number, as said at MARK.
         self.put(MARK);
     }
 
@@ -229,6 +233,7 @@ impl Trial<'_> {
         // of sizes that are refused the contract says nothing
         let _ = fresh::fresh_table(t, self.levels, self.queues, self.nodes);
         notes.replay(t, schedule);
+        // kept: the mark is a number, as said at MARK.
         notes.put(MARK);
         notes.put_queues(t, self.queues);
         notes
@@ -251,31 +256,6 @@ impl Trial<'_> {
         let notes = self.outcome(&schedule, &mut t[..n]);
         count(tallies, &notes.key());
     }
-}
-
-// How many outcomes are kept.
-#[tactic(auto, unfolding(crate::specs::Tallies::known_in))]
-fn known(tallies: &[u64]) -> usize
-    requires { 5122 ≤ length tallies.now }
-    ensures { (result ≡ known_in tallies.now) × (result ≤ 1024) }
-{
-    tallies[0].min(KEPT as u64) as usize
-}
-
-fn has_key(tallies: &[u64], i: usize, key: &[u64; 4]) -> bool
-    requires { (5122 ≤ length tallies.now) × (i < 1024) }
-    ensures { result ≡ has_key tallies.now i key.now }
-{
-    let at = 3 + 5 * i;
-    tallies[at..at + 4] == key[..]
-}
-
-// Which of the first n outcomes has this key.
-fn find_key(tallies: &[u64], n: usize, key: &[u64; 4]) -> Option<usize>
-    requires { (5122 ≤ length tallies.now) × (n ≤ 1024) }
-    ensures { MatchOption result (n ≤ place_from n tallies.now 0 key.now) (λ i. (i ≡ place_from n tallies.now 0 key.now) × (i < n)) }
-{
-    (0..n).position(|i| has_key(tallies, i, key))
 }
 
 // A count stays at the largest.
@@ -303,8 +283,9 @@ fn count(tallies: &mut [u64], key: &[u64; 4])
     requires { 5122 ≤ length tallies.old }
     ensures { tallies.new ≡ counted tallies.old key.now }
 {
-    let n = known(tallies);
-    match find_key(tallies, n, key) {
+    let read = Tallies { words: tallies };
+    let n = read.known();
+    match read.find(n, key) {
         Some(i) => add_one(tallies, 2 + 5 * i),
         None if n < KEPT => add_entry(tallies, n, key),
         None => add_one(tallies, 1),
@@ -321,6 +302,7 @@ fn part_of(w: u64, j: usize) -> u16
 }
 
 // Number j of the outcome's key, which starts at this place.
+// kept: four numbers to a word, as the definitions of the tallies have them (number_in, key_of).
 #[tactic(auto, unfolding(crate::specs::Lines::number_in))]
 fn number_in(tallies: &[u64], key: usize, j: usize) -> u16
     requires { (key + 4 ≤ length tallies.now) × (j < 16) }
@@ -337,6 +319,8 @@ fn put_decimal(pen: &mut Pen, n: u64)
 }
 
 // ` NODE` or ` empty`
+// kept: 0 is empty, as in answers::End, and one of the numbers of a key (specs: value_text).
+// kept: no Display of the lines, for the reason beside loglines::Pen.
 fn put_value(pen: &mut Pen, x: u16)
     ensures { Writes pen.old pen.new (value_text x) }
 {
@@ -364,6 +348,7 @@ fn put_numbers(pen: &mut Pen, tallies: &[u64], key: usize, queues: u16)
     let mut q: u16 = 0;
     for j in 0..16 {
         let x = number_in(tallies, key, j);
+        // kept: the mark is a number, as said at MARK.
         if x != MARK {
             put_value(pen, x);
         } else if q < queues {
@@ -372,27 +357,6 @@ fn put_numbers(pen: &mut Pen, tallies: &[u64], key: usize, queues: u16)
         } else {
             return;
         }
-    }
-}
-
-// `COUNT returned A B .. queue 1 X Y .. queue 2 Z ..`
-fn put_outcome(pen: &mut Pen, tallies: &[u64], i: usize, queues: u16)
-    requires { (5122 ≤ length tallies.now) × (i < 1024) }
-    ensures { Writes pen.old pen.new (outcome_line tallies.now i queues) }
-{
-    let at = 2 + 5 * i;
-    put_decimal(pen, tallies[at]);
-    pen.put(b" returned");
-    put_numbers(pen, tallies, at + 1, queues);
-    pen.put(b"\n");
-}
-
-fn put_outcomes(pen: &mut Pen, tallies: &[u64], n: usize, queues: u16)
-    requires { (5122 ≤ length tallies.now) × (n ≤ 1024) }
-    ensures { Writes pen.old pen.new (outcome_lines n tallies.now 0 queues) }
-{
-    for i in 0..n {
-        put_outcome(pen, tallies, i, queues);
     }
 }
 
@@ -415,13 +379,67 @@ fn put_count(pen: &mut Pen, n: u64)
     pen.put(b"\n");
 }
 
-fn put_lines(pen: &mut Pen, count: u64, tallies: &[u64], queues: u16)
-    requires { 5122 ≤ length tallies.now }
-    ensures { Writes pen.old pen.new (counted_text count tallies.now queues) }
-{
-    put_count(pen, count);
-    put_outcomes(pen, tallies, known(tallies), queues);
-    put_others(pen, tallies[1]);
+// Tallies that have all their words.
+#[derive(Clone, Copy)]
+struct Tallies<'a> {
+    words: &'a [u64],
+    ghost long: { 5122 ≤ length words.now },
+}
+
+impl Tallies<'_> {
+    // How many outcomes are kept.
+    #[tactic(auto, unfolding(crate::specs::Tallies::known_in))]
+    fn known(&self) -> usize
+        ensures { (result ≡ known_in self.now.words.now) × (result ≤ 1024) }
+    {
+        self.words[0].min(KEPT as u64) as usize
+    }
+
+    fn has_key(&self, i: usize, key: &[u64; 4]) -> bool
+        requires { i < 1024 }
+        ensures { result ≡ has_key self.now.words.now i key.now }
+    {
+        let at = 3 + 5 * i;
+        self.words[at..at + 4] == key[..]
+    }
+
+    // Which of the first n outcomes has this key.
+    fn find(&self, n: usize, key: &[u64; 4]) -> Option<usize>
+        requires { n ≤ 1024 }
+        ensures { MatchOption result (n ≤ place_from n self.now.words.now 0 key.now)
+            (λ i. (i ≡ place_from n self.now.words.now 0 key.now) × (i < n)) }
+    {
+        (0..n).position(|i| self.has_key(i, key))
+    }
+
+    // `COUNT returned A B .. queue 1 X Y .. queue 2 Z ..`
+    fn put_outcome(&self, pen: &mut Pen, i: usize, queues: u16)
+        requires { i < 1024 }
+        ensures { Writes pen.old pen.new (outcome_line self.now.words.now i queues) }
+    {
+        let at = 2 + 5 * i;
+        put_decimal(pen, self.words[at]);
+        pen.put(b" returned");
+        put_numbers(pen, self.words, at + 1, queues);
+        pen.put(b"\n");
+    }
+
+    fn put_outcomes(&self, pen: &mut Pen, queues: u16)
+        ensures { Writes pen.old pen.new (outcome_lines (known_in self.now.words.now) self.now.words.now 0 queues) }
+    {
+        let n = self.known();
+        for i in 0..n {
+            self.put_outcome(pen, i, queues);
+        }
+    }
+
+    fn put_lines(&self, pen: &mut Pen, count: u64, queues: u16)
+        ensures { Writes pen.old pen.new (counted_text count self.now.words.now queues) }
+    {
+        put_count(pen, count);
+        self.put_outcomes(pen, queues);
+        put_others(pen, self.words[1]);
+    }
 }
 
 // How many schedules there are, then a line for each outcome in the order of their first schedules, and one for the others: how many bytes
@@ -437,6 +455,6 @@ pub fn write_outcomes(
     ensures { put_lines room.old (counted_text count tallies.now queues) ≡ (result, room.new) }
 {
     let mut pen = Pen { room, at: Some(0) };
-    put_lines(&mut pen, count, tallies, queues);
+    Tallies { words: tallies }.put_lines(&mut pen, count, queues);
     pen.at.ok_or(Refusal::Room)
 }

@@ -19,6 +19,7 @@ fn play_steps(
     ensures { Plays pen.old pen.new (steps_of (line_of bound_nodes) count table.old) (answer_says result, table.new) }
 {
     let mut left = count;
+    // kept: a run takes several steps of the count, so no `for` goes over it
     while 0 < left {
         let ran = steps::run(table, left)?;
         match ran.why {

@@ -28,6 +28,7 @@ impl<'a> Reader<'a> {
 }
 
 // The same of a text and a place: whoever calls this needs no reader.
+// kept: a public function that docs/PROVED.md names; its promise is that of next_event (one_next).
 pub fn event_at(text: &[u8], place: usize) -> Result<(Event, usize), BadLine>
     ensures { line_answer result ≡ event_reading text.now place }
 {

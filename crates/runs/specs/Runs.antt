@@ -94,6 +94,7 @@ starred =
     ∷ lists (E 0 1 2 ∷ S 10 ∷ E 0 1 3 ∷ S 4 ∷ D 1 1 ∷ S 21 ∷ S 7 ∷ []) (E· 0 1 2 10 ∷ D· 1 1 0 21 ∷ E· 0 1 3 11 ∷ []) (2 ∷ 3 ∷ [])
     ∷ []
 
+-- kept: std's All asks for each index, and these runs are shown one by one, by computing
 abbrev pub All : (Run → Type 0) → List Run → Type 0
 All P [] = Unit
 All P (r ∷ rs) = P r × All P rs

@@ -1,6 +1,6 @@
 -- From a reading to the bytes that were read.
 use Rattle.std.specs.Prelude.{ℕ, zero, suc, ◌+◌, ◌≤◌, ◌≡◌, refl, List, [], ◌∷◌, ◌++◌, Bool, true, false, cond, ◌&&◌, length, drop, leb, eqb, Option, Some, None}
-use Rattle.std.proofs.Common.{ap, ◌∙◌, append_assoc, append-nil, arith, leb-true, eqb-true}
+use Rattle.std.proofs.Common.{ap, ◌∙◌, append_assoc, append-nil, leb-true, eqb-true}
 use Rattle.std.proofs.Math.Bool.{and-eq-true_iff}
 use Rattle.std.proofs.lemmas.Option.{none-some, some_pair_parts}
 use Rattle.std.proofs.Math.Seq.{drop-length}

@@ -1,6 +1,7 @@
 -- From the text of a schedule to what is read there.
-use Rattle.std.specs.Prelude.{ℕ, ◌+◌, ◌-◌, ◌≤◌, ◌≡◌, refl, List, [], ◌∷◌, ◌++◌, Bool, true, false, ◌||◌, length, drop, get_or, Some}
+use Rattle.std.specs.Prelude.{ℕ, ◌+◌, ◌-◌, ◌≤◌, ◌≡◌, refl, List, [], ◌∷◌, ◌++◌, true, false, length, drop, get_or, Some}
 use Rattle.std.proofs.Common.{sym, ap, ◌∙◌, append_assoc, append-nil, arith, length-drop, drop-drop, get_or-drop, le-leb, eq-eqb}
+use Rattle.std.proofs.Math.Bool.{or-true}
 use Rattle.std.proofs.Math.Seq.{drop-append_seam}
 use Rattle.std.proofs.lemmas.List.{get_or_at}
 use Rattle.decimals.specs.Decimals.{field_at, field_of, digits_of, width_of, is_digit}
@@ -68,14 +69,10 @@ event_next (Steps k) text rest place s e =
     let a = field_next lf k text rest (place + 2) refl s.0 (after text head_s _ place e) in
     record { next = a.next; is = simp (e, a.is, le-leb 1 k s.1); then = a.then; ends = a.ends }
 
-or_true : (t : Bool) → (t || true) ≡ true
-or_true true = refl
-or_true false = refl
-
 -- a line starts after an LF
 starts : (text : List ℕ) (place : ℕ) → length text ≤ longest → get_or text (place - 1) 0 ≡ lf → line_starts text place ≡ true
 unfolding line_starts
-starts text place short e = simp (le-leb (length text) longest short, e, or_true)
+starts text place short e = simp (le-leb (length text) longest short, e, or-true)
 
 record EventsNext (es : List Event) (text : List ℕ) (place : ℕ) (rest : List ℕ) : Type 0 where
   next : ℕ

@@ -29,6 +29,8 @@ impl Events for Any {
 }
 
 // So many events from place on, and then the end.
+// kept: text, place and count: an opening has the count, and the place is read_sizes' other answer; a struct would be made for this call
+// alone.
 #[tactic(auto, using(crate::specs::Laws::rests), unfolding(text::specs::Reading::line_answer))]
 fn read_rest<E: Events>(text: &[u8], place: usize, count: u16) -> Result<(), BadLine>
     ensures { line_answer result ≡ rest_by E.reading count text.now place }

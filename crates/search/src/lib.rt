@@ -29,6 +29,7 @@ use text::Opening;
 use words::Sizes;
 
 // What is done with each schedule: it is counted, its outcome is counted too, or its text is measured, or written.
+// kept: an enum and no closure: what is listed is defined by it (emitted, entered), and so what tries promises of each call.
 #[derive(Clone, Copy, PartialEq, Eq, Debug)]
 pub enum What {
     Count,
@@ -121,6 +122,7 @@ impl Asked {
 }
 
 // Whether n bytes fit from a place on.
+// kept: checked_add with is_some_and says the same, with a closure more.
 fn has_room(all: usize, at: usize, n: usize) -> bool
     ensures value { result ≡ leb (at + n) all }
     ensures n_bound { result ≡ true → at + n ≤ all }
@@ -228,6 +230,7 @@ impl Search<'_> {
 
     // All that goes on with a step: operation i is accepted now. The table is used up. Where one operation remains, what follows its begin
     // is tried on the copy before the step, so that nothing has to be saved.
+    // kept: Exploring is a clause: it ties the table's and the copy's length, the request and the spot, which no one struct holds.
     #[cycle(explore)]
     pub fn explore_step<const N: usize>(&self, t: &mut [u16], at: Spot, out: &mut Listing<'_>)
         requires exploring { Exploring N (length t.old) (length out.old.copy.now) self.now.asked at }
@@ -242,6 +245,7 @@ impl Search<'_> {
         let s = self.asked.sizes();
         let o = ways::op_in(self.ops, at.i);
         let k = ways::go_on(t, s, o, at.left);
+        // kept: k is 0 where nothing goes on, as ways::go_on and ways::stretch answer.
         if k == 0 {
             return;
         }
@@ -307,6 +311,7 @@ impl Search<'_> {
         }
         let i = at.i + 1;
         let k = ways::stretch(t, s, ways::op_in(self.ops, i), left);
+        // kept: k is 0 where nothing goes on, as ways::go_on and ways::stretch answer.
         if k == 0 {
             return;
         }

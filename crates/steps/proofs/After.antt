@@ -46,13 +46,13 @@ held_level s t l f d e = by (sound s f) e
     x = turned s t (row (point_of f.point) f l (level s.levels))
 
     on : (y : Option After) → followed l f y ≡ Ended d → d.level ≡ l
-    on (Some (Go g)) h = let w : ◌≡◌ {A = ℕ} 0 1 = cc in absurd (omega arith)
+    on (Some (Go g)) h = cc
     on (Some (Done n)) h = let same : end_of l f n ≡ d = cc in ap (λ (i : End). i.level) (sym same)
-    on None h = let w : ◌≡◌ {A = ℕ} 0 1 = cc in absurd (omega arith)
+    on None h = cc
 
     by : (b : Bool) → (cond {A = Held × List ℕ} b (follow l f x) (Damaged, t)).0 ≡ Ended d → d.level ≡ l
     by true h = on x.0 h
-    by false h = let w : ◌≡◌ {A = ℕ} 0 1 = cc in absurd (omega arith)
+    by false h = cc
 
 module _ (s : Sizes) (t : List ℕ) (room : words s ≤ length t) where
   nobody_refused : (x : Out) → serving s t s.levels ≡ None → step_sized s t ≡ x → x ≡ (refused 9, t)
@@ -93,8 +93,7 @@ module _ (s : Sizes) (t : List ℕ) (room : words s ≤ length t) where
       by None z =
           let no = nobody_refused (says going_on, u) z e in
           let said : says going_on ≡ refused 9 = ap (λ (x : Out). x.0) no in
-          let w : ◌≡◌ {A = ℕ} 0 1 = cc in
-          absurd (omega arith)
+          cc
       by (Some l) z = on (held s t l (counted (frame_of s t l))).0 refl (sym (served_step l z) ∙ e)
         where
           v : List ℕ
@@ -108,12 +107,10 @@ module _ (s : Sizes) (t : List ℕ) (room : words s ≤ length t) where
               rw at at (put_steady l g v (serving_below s t s.levels l z) (held_leaves s t room l (counted (frame_of s t l))).long goes)
           on (Ended d) i k =
               let said : says (ended d) ≡ says going_on = ap (λ (x : Out). x.0) k in
-              let w : ◌≡◌ {A = ℕ} 0 1 = cc in
-              absurd (omega arith)
+              cc
           on Damaged i k =
               let said : refused 10 ≡ says going_on = ap (λ (x : Out). x.0) k in
-              let w : ◌≡◌ {A = ℕ} 0 1 = cc in
-              absurd (omega arith)
+              cc
 
   -- ---- a step that ends an operation
 
@@ -121,7 +118,7 @@ module _ (s : Sizes) (t : List ℕ) (room : words s ≤ length t) where
   serving_down : (l : Level) (u : List ℕ) (n : ℕ) → serving s t n ≡ Some l → ((k : Level) → l.0 < k.0 → frame_of s u k ≡ frame_of s t k)
       → (frame_of s u l).op ≡ 0 → serving s u n ≡ serving s u l.0
   unfolding serving
-  serving_down l u zero z same o = let w : ◌≡◌ {A = ℕ} 0 1 = cc in absurd (omega arith)
+  serving_down l u zero z same o = cc
   serving_down l u (suc n) z same o = by (eqb (frame_of s t (level n)).op 0) refl (λ k. serving_down l u n k same o) z
     where
       by : (b : Bool) → eqb (frame_of s t (level n)).op 0 ≡ b → (serving s t n ≡ Some l → serving s u n ≡ serving s u l.0)
@@ -153,8 +150,7 @@ module _ (s : Sizes) (t : List ℕ) (room : words s ≤ length t) where
       by None z =
           let no = nobody_refused (says (ended e), u) z eq in
           let said : says (ended e) ≡ refused 9 = ap (λ (x : Out). x.0) no in
-          let w : ◌≡◌ {A = ℕ} 0 1 = cc in
-          absurd (omega arith)
+          cc
       by (Some l) z = on (held s t l (counted (frame_of s t l))).0 refl (sym (served_step l z) ∙ eq)
         where
           v : List ℕ
@@ -164,8 +160,7 @@ module _ (s : Sizes) (t : List ℕ) (room : words s ≤ length t) where
               → back s l (frame_of s t l) h v ≡ (says (ended e), u) → Down s e u
           on (Going g) i k =
               let said : says going_on ≡ says (ended e) = ap (λ (x : Out). x.0) k in
-              let w : ◌≡◌ {A = ℕ} 0 1 = cc in
-              absurd (omega arith)
+              cc
           on (Ended d) i k =
               let at : put_frame s v l no_frame ≡ u = ap (λ (x : Out). x.1) k in
               let said : says (ended d) ≡ says (ended e) = ap (λ (x : Out). x.0) k in
@@ -178,5 +173,4 @@ module _ (s : Sizes) (t : List ℕ) (room : words s ≤ length t) where
               }
           on Damaged i k =
               let said : refused 10 ≡ says (ended e) = ap (λ (x : Out). x.0) k in
-              let w : ◌≡◌ {A = ℕ} 0 1 = cc in
-              absurd (omega arith)
+              cc

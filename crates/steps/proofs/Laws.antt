@@ -41,7 +41,7 @@ serving_hit s t i n e h z = rw (serving_last s t i n e h, ne_eqb (frame_of s t (
 
 pub serving_below : (s : Sizes) (t : List ℕ) (n : ℕ) (l : Level) → serving s t n ≡ Some l → l.0 < n
 unfolding serving
-serving_below s t zero l e = let z : ◌≡◌ {A = ℕ} 0 1 = cc in omega arith
+serving_below s t zero l e = cc
 serving_below s t (suc n) l e = by (eqb (frame_of s t (level n)).op 0) (serving_below s t n l) e
   where
     by : (b : Bool) → (serving s t n ≡ Some l → l.0 < n) → cond b (serving s t n) (Some (level n)) ≡ Some l → l.0 < suc n
@@ -50,7 +50,7 @@ serving_below s t (suc n) l e = by (eqb (frame_of s t (level n)).op 0) (serving_
 
 pub serving_runs : (s : Sizes) (t : List ℕ) (n : ℕ) (l : Level) → serving s t n ≡ Some l → (frame_of s t l).op ≢ 0
 unfolding serving
-serving_runs s t zero l e = let z : ◌≡◌ {A = ℕ} 0 1 = cc in absurd (omega arith)
+serving_runs s t zero l e = cc
 serving_runs s t (suc n) l e = by (eqb (frame_of s t (level n)).op 0) refl (serving_runs s t n l) e
   where
     by : (b : Bool) → eqb (frame_of s t (level n)).op 0 ≡ b → (serving s t n ≡ Some l → (frame_of s t l).op ≢ 0)

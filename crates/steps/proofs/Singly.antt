@@ -168,8 +168,7 @@ module _ (s : Sizes) where
   unfolding run_from ran_on
   run_down zero n m t u e k h =
       let said : says (after n spent) ≡ says (after m (an_end e)) = ap (λ (x : Said Run × List ℕ). x.0) h in
-      let w : ◌≡◌ {A = ℕ} 0 1 = cc in
-      absurd (omega arith)
+      cc
   run_down (suc left) n m t u e k h = by (step_sized s t) refl (step_kept s t k) (run_down left (n + 1) m) h
     where
       by : (x : Out) → step_sized s t ≡ x → Kept s x
@@ -185,8 +184,8 @@ module _ (s : Sizes) where
       by (refused r, v) z kept ih j = why (eqb r 9) (ap (λ (x : Said Run × List ℕ). x.0) j)
         where
           why : (b : Bool) → says (after n (cond b nothing_runs refusal_10)) ≡ says (after m (an_end e)) → Down s e u
-          why true i = let w : ◌≡◌ {A = ℕ} 0 1 = cc in absurd (omega arith)
-          why false i = let w : ◌≡◌ {A = ℕ} 0 1 = cc in absurd (omega arith)
+          why true i = cc
+          why false i = cc
 
 pub ended_within : (left m : ℕ) (t u : List ℕ) (e : End) → run_of left t ≡ (says (after m (an_end e)), u) → (0 < m) × (m ≤ left)
 unfolding run_of run_measured
@@ -195,6 +194,5 @@ ended_within left m t u e h = by (measured t) h
     by : (x : Option Sizes) → run_measured left t x ≡ (says (after m (an_end e)), u) → (0 < m) × (m ≤ left)
     by None k =
         let said : refused 1 ≡ says (after m (an_end e)) = ap (λ (x : Said Run × List ℕ). x.0) k in
-        let w : ◌≡◌ {A = ℕ} 0 1 = cc in
-        absurd (omega arith)
+        cc
     by (Some s) k = sized_ended_within s left m t u e k

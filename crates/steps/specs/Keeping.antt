@@ -5,7 +5,6 @@ use Rattle.std.proofs.Common.{sym, ◌∙◌}
 use mathlib.Core.List.{List}
 use Rattle.std.specs.Prelude.{Bool, cond, not, length, eqb, Option, Some, None}
 use Rattle.std.proofs.Math.Bool.{true, false, false≢true}
-use native.Mathlib.Omega.{arith}
 use borrow.Author.Tests.{eqb-true, eqb-false, not-true}
 use Rattle.words.specs.declared.Level.{Level}
 use Rattle.words.specs.declared.Sizes.{Sizes}
@@ -170,7 +169,7 @@ module _ (s : Sizes) (t : List ℕ) (room : words s ≤ length t) where
       record {
         long = refl;
         frames = λ k. refl;
-        kinds = λ g e. let z : ◌≡◌ {A = ℕ} 0 1 = cc in absurd (omega arith);
+        kinds = λ g e. cc;
         uses = λ g e n h. refl;
       }
 
@@ -184,7 +183,7 @@ module _ (s : Sizes) (t : List ℕ) (room : words s ≤ length t) where
   freed_ends : (n : Node) (after : After) (g : Frame) → spares (frees n after) ≡ true → ◌≡◌ {A = Option After} (Some after) (Some (Go g)) → ⊥
   unfolding spares
   freed_ends n (Go h) g k e = false≢true k
-  freed_ends n (Done m) g k e = let z : ◌≡◌ {A = ℕ} 0 1 = cc in omega arith
+  freed_ends n (Done m) g k e = cc
 
   turned_keeps : (o : ℕ × ℕ) (r : Row) → ((x : ℕ) → kind_of o x r ≡ o) → spares r ≡ true → Kept o (turned s t r)
   unfolding turned kind_of
@@ -243,8 +242,8 @@ module _ (s : Sizes) (t : List ℕ) (room : words s ≤ length t) where
       by (Some (Go h)) o v z =
           let w : h ≡ g = cc in
           record { frames = λ k'. rw at at (k.frames k'); kinds = o g (rw w); uses = rw at at (v g (rw w)) }
-      by (Some (Done n)) o v z = let w : ◌≡◌ {A = ℕ} 0 1 = cc in absurd (omega arith)
-      by None o v z = let w : ◌≡◌ {A = ℕ} 0 1 = cc in absurd (omega arith)
+      by (Some (Done n)) o v z = cc
+      by None o v z = cc
 
   row_keeps : (l : Level) (f : Frame) → Kept (kind f) (turned s t (row (point_of f.point) f l (level s.levels)))
   row_keeps l f =
@@ -263,8 +262,7 @@ module _ (s : Sizes) (t : List ℕ) (room : words s ≤ length t) where
       by true h = going l f g u x (row_keeps l f) h
       by false h =
           let z : Damaged ≡ Going g = ap (λ (y : Held × List ℕ). y.0) h in
-          let w : ◌≡◌ {A = ℕ} 0 1 = cc in
-          absurd (omega arith)
+          cc
 
   -- whatever follows
   pub record Left (u : List ℕ) : Type 0 where

@@ -1,7 +1,7 @@
 -- A step that goes on keeps its frame sound: op and queue stay as they are, and an enqueue stays at the E points.
 use Prim.Native.Nat.{ℕ, ◌≤◌}
 use Rattle.std.proofs.Math.Path.{◌≡◌, refl, ap}
-use Rattle.std.proofs.Common.{sym, arith, eqb-true}
+use Rattle.std.proofs.Common.{sym, eqb-true}
 use mathlib.Core.List.{List, [], ◌∷◌}
 use Rattle.std.specs.Prelude.{Bool, cond, ◌&&◌, length, eqb, Option, Some, None}
 use Rattle.std.proofs.Math.Bool.{true, false, not}
@@ -96,7 +96,7 @@ module _ (s : Sizes) (t : List ℕ) where
   late_next a g h e = let z : a ≡ Go g = cc in rw z at h
 
   stray_next : (g : Frame) → ◌≡◌ {A = Option After} None (Some (Go g)) → ⊥
-  stray_next g e = let z : ◌≡◌ {A = ℕ} 0 1 = cc in omega arith
+  stray_next g e = cc
 
   turned_early : (r : Row) (g : Frame) → ((x : ℕ) → late_of x r ≡ false) → (turned s t r).0 ≡ Some (Go g)
       → leb (number_of D1) g.point ≡ false

@@ -15,6 +15,7 @@ use table::{After, Point};
 use words::{Frame, Level, Node, Sizes};
 
 // The highest level below n whose op is not 0.
+// kept: op is a number, as in words::Frame.
 pub fn find_served(t: &[u16], s: Sizes, n: usize) -> Option<Level>
     requires fits { Fits s t.now }
     requires n_le_levels { n ≤ s.levels }
@@ -30,6 +31,7 @@ pub fn find_served(t: &[u16], s: Sizes, n: usize) -> Option<Level>
 }
 
 // Whether an enqueue is at a D point.
+// kept: op and point are numbers, as in words::Frame.
 #[tactic(auto, unfolding(crate::specs::Step::strays))]
 fn is_stray(f: Frame) -> bool
     ensures { result ≡ strays f }
@@ -38,6 +40,7 @@ fn is_stray(f: Frame) -> bool
 }
 
 // Whether the frame's op, point and queue give no refusal 10.
+// kept: op and point are numbers, as in words::Frame.
 #[tactic(auto, unfolding(crate::specs::Step::sound))]
 fn is_sound(s: Sizes, f: Frame) -> bool
     ensures { result ≡ sound s f }
@@ -57,6 +60,7 @@ fn with_steps(f: Frame, first: u16, n: u16) -> Frame
 }
 
 // What an operation's last step answers.
+// kept: field by field, since a Frame and an End are two types, and an End has a level and another node.
 fn end_of(l: Level, f: Frame, n: Node) -> End
     ensures { result ≡ end_of l f n }
 {
@@ -218,6 +222,7 @@ pub fn run_sized(t: &mut [u16], s: Sizes, budget: u16) -> Ran
 }
 
 // All steps of a table that was measured until nothing runs.
+// kept: two names with a promise each (run_from, whole_from); a const for whole would make two places that call run_level.
 pub fn run_out(t: &mut [u16], s: Sizes, budget: u16) -> Ran
     requires { measured t.old ≡ Some s }
     ensures { whole_from s budget 0 t.old ≡ (says (ran_says result), t.new) }

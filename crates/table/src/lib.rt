@@ -90,6 +90,7 @@ impl Point {
 }
 
 // The points' numbers in their order: the names of the code are the names of the definitions.
+// kept: this clause alone says that the constants have document 01's numbers, in its order.
 pub fn numbers() -> [u16; 36]
     ensures { result ≡ map number_of points }
 {
@@ -135,6 +136,7 @@ pub fn numbers() -> [u16; 36]
 
 // What follows an access: the frame as it goes on (it stays at its point, or goes to another), or the operation's end with its node, 0 for
 // empty.
+// kept: Done's node is a number, 0 for empty, as in answers::End and in the rows' ends (specs/Frames.antt, ends).
 #[derive(Clone, Copy)]
 pub enum After {
     Go(Frame),
@@ -172,6 +174,7 @@ fn below_m(f: Frame, x: u16, y: u16) -> After
 }
 
 // What the word holds, where it is one of the table's.
+// kept: t and s beside each other, as in words.
 #[tactic(auto, unfolding(crate::specs::Turn::loaded))]
 fn load(t: &[u16], s: Sizes, w: Word) -> Option<u16>
     requires { Fits s t.now }
@@ -200,6 +203,7 @@ fn store(t: &mut [u16], s: Sizes, w: Word, v: u16) -> Option<()>
 // The step table: a case for each point, in document 01's order, with its one access, its tests and its next points. The frame is held
 // beside the table: q and n are its queue and node, k to m its words of these names. x is what was loaded. None: the access is to a word
 // that is not one of the table's, or there is no such point.
+// kept: one match on the point, since a frame holds its point as a number in words that a caller lends, which no closure can stand for.
 pub fn turn(t: &mut [u16], s: Sizes, l: Level, top: Level, mut f: Frame) -> Option<After>
     requires { Fits s t.old }
     ensures { turned s t.old (row (point_of f.point) f l top) ≡ (result, t.new) }

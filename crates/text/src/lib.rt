@@ -41,8 +41,8 @@ pub struct Opening {
 #[derive(Clone, Copy, PartialEq, Eq, Debug)]
 pub struct BadLine(pub usize);
 
-// kept: a text and a place as two parameters of what reads here. `reader::Reader` is the struct of both, and calls these. A struct below
-// it would be no plainer, as each place here is where the field before it ended.
+// kept: a text and a place as two parameters of what reads here, and in heads, decimals, schedule, play, logs and tasks. `reader::Reader` is
+// the struct of both, and calls these. A struct below it would be no plainer, as each place here is where the field before it ended.
 
 pub const SPACE: u8 = b' ';
 
@@ -63,6 +63,7 @@ fn lines_before(text: &[u8], place: usize) -> usize
     count_lfs(&text[..place.min(text.len())])
 }
 
+// kept: line 0 for a text that is too long is promised (line_at, docs/SCHEDULE.md).
 #[tactic(auto, using(std::proofs::lemmas::Bool::Decides::nat_tests), unfolding(crate::specs::Reading::line_at))]
 pub fn line_at(text: &[u8], place: usize) -> usize
     ensures { result ≡ line_at text.now place }

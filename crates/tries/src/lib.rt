@@ -181,6 +181,7 @@ fn ask(
 }
 
 // Every schedule of the operations, four words each, as text, at most bound of them.
+// kept: three numbers, as the call for C takes them and hands them on.
 pub fn try_schedules(
     levels: u16,
     queues: u16,
@@ -225,6 +226,7 @@ fn count_as(
 }
 
 // How many schedules there are.
+// kept: two public names with a promise each (number_of, tally_of) over count_as.
 pub fn count_schedules(levels: u16, queues: u16, nodes: u16, ops: &[u16]) -> Result<u64, Refusal>
     ensures { number_of levels queues nodes ops.now ≡ number_says result }
 {

@@ -1,9 +1,8 @@
 #![tactic(auto)]
 // What the program tries does: it reads a task, and prints its schedules, or how many there are and their outcomes.
-ghost use Rattle.std.specs.Prelude.{◌≡◌, Some};
+ghost use Rattle.std.specs.Prelude.{◌≡◌};
 ghost use Rattle.answers.specs.Said.{number};
-ghost use Rattle.loglines.specs.Ink.{ink};
-ghost use Rattle.loglines.specs.Lines.{text_line, refusal_line};
+ghost use Rattle.loglines.specs.Lines.{text_line};
 ghost use Rattle.trying.specs.Trying.{
   pen_says,
   answer_says,
@@ -45,6 +44,7 @@ const BOUND: u32 = 20000;
 // ---- the arguments
 
 // One digit more, if it is one and the number stays within 32 bits.
+// kept: no decimals::read_rest, whose numbers have 16 bits, no leading zero and a byte that ends them (specs: digit_on).
 #[tactic(auto, unfolding(crate::specs::Bounds::digit_on))]
 fn add_digit(n: u32, b: u8) -> Option<u32>
     ensures { result ≡ digit_on n b }
@@ -97,37 +97,27 @@ fn whole(written: Option<usize>) -> Result<Answer, NoRoom>
     Ok(Answer { bytes, more: false })
 }
 
-fn write_wrong(line: usize, room: &mut [u8]) -> Option<usize>
-    ensures { ink (Some 0, room.old) (text_line line) ≡ (result, room.new) }
-{
-    let mut pen = Pen { room, at: Some(0) };
-    pen.put_text_refusal(line);
-    pen.at
-}
-
 // `T line`
+#[tactic(auto, unfolding(crate::specs::Trying::laid))]
 fn tell_wrong(line: usize, room: &mut [u8]) -> Result<Answer, NoRoom>
     ensures { laid (text_line line) room.old ≡ (answer_says result, room.new) }
 {
-    whole(write_wrong(line, room))
-}
-
-fn write_refused(why: Refusal, room: &mut [u8]) -> Option<usize>
-    ensures { ink (Some 0, room.old) (refusal_line 0 (number why)) ≡ (result, room.new) }
-{
     let mut pen = Pen { room, at: Some(0) };
-    pen.put_refusal(0, why.into());
-    pen.at
+    pen.put_text_refusal(line);
+    whole(pen.at)
 }
 
 // `R 0 number`, but for the room that is too small
+#[tactic(auto, unfolding(crate::specs::Trying::laid, crate::specs::Trying::refused_told))]
 fn tell_refused(why: Refusal, room: &mut [u8]) -> Result<Answer, NoRoom>
     ensures { refused_told (number why) room.old ≡ (answer_says result, room.new) }
 {
-    match why {
-        Refusal::Room => Err(NoRoom),
-        _ => whole(write_refused(why, room)),
+    if let Refusal::Room = why {
+        return Err(NoRoom);
     }
+    let mut pen = Pen { room, at: Some(0) };
+    pen.put_refusal(0, why.into());
+    whole(pen.at)
 }
 
 fn list_schedules(o: Opening, ops: &[u16], bound: u32, room: &mut [u8]) -> Result<Answer, NoRoom>

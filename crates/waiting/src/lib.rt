@@ -26,6 +26,8 @@ fn run_budget(left: usize) -> u16
 }
 
 // Dequeues at the highest level, one after another, until one says empty: the nodes that they return. The level is idle.
+// kept: an end's node is 0 for empty, as in answers::End.
+// kept: t and s beside each other, as in words; and Ready is a clause of three private functions, each the other's only caller.
 fn drain(t: &mut [u16], s: Sizes, l: Level, q: Queue, steps: usize) -> Result<u32, Refusal>
     requires alone { Alone s t.old l q }
     requires l_value { ((frame_of s t.old l).op ≡ 0) × (steps < 4294967296) }

@@ -9,8 +9,8 @@ use answers::Why;
 use words::{Level, Node, Queue, Sizes};
 
 // An operation: op 1 is an enqueue, op 2 with node 0 a dequeue; any other is never accepted.
-// kept: op is a number, as in the words that C lends. One that is none has a level, a queue and a node too, of which `op_event` speaks,
-// and with it what entries promises of any words: an enum would need a third variant with all four.
+// kept: op is a number, as in the words that C lends. One that is none has a level, a queue and a node too, of which `op_event` speaks, and
+// with it what entries promises of any words: an enum would need a third variant with all four.
 #[derive(Clone, Copy)]
 pub struct Op {
     pub op: u16,
@@ -20,6 +20,7 @@ pub struct Op {
 }
 
 // Operation i of the words.
+// kept: by place: a slice pattern would want an else that never runs, as the words are there.
 #[tactic(auto, unfolding(crate::specs::Schedules::op_in))]
 pub fn op_in(ops: &[u16], i: usize) -> Op
     requires { (i < 6) × (4 * i + 4 ≤ length ops.now) }
@@ -33,10 +34,11 @@ pub fn op_in(ops: &[u16], i: usize) -> Op
     }
 }
 
-// kept: a table and its sizes are two parameters, as in steps and begins. In a struct of both, each contract of the search would have to
-// say that the sizes are those that are asked, of which it now makes them.
+// kept: a table and its sizes are two parameters, as in words. In a struct of both, each contract of the search would have to say
+// that the sizes are those that are asked, of which it now makes them.
 
 // Whether the operation would be accepted.
+// kept: op is a number, as said at Op.
 #[tactic(auto, using(crate::specs::Calls::may))]
 fn may_begin(t: &[u16], s: Sizes, o: Op) -> bool
     requires { TableOf s t.now }
@@ -50,6 +52,7 @@ fn may_begin(t: &[u16], s: Sizes, o: Op) -> bool
 }
 
 // Begins the operation, which is accepted, on a table that was measured.
+// kept: op is a number, as said at Op.
 #[tactic(auto, using(crate::specs::Calls::accepted))]
 fn put_begin(t: &mut [u16], s: Sizes, o: Op)
     requires { TableOf s t.old × ((begun o t.old).0 ≡ true) }
@@ -89,6 +92,7 @@ pub fn take_begin(t: &mut [u16], o: Op) -> bool
 
 // Takes steps while the operation is refused, so that nothing is to be chosen: it stays refused until an operation ends. Answers what is
 // left of the moves, 0 where nothing runs before it is accepted.
+// kept: 0 for none, as stretched and gone_on say: no moves left and no way on end the search alike.
 #[tactic(auto, using(crate::specs::Stretches::starts))]
 pub fn stretch(t: &mut [u16], s: Sizes, o: Op, left: u16) -> u16
     requires { TableOf s t.old }
@@ -111,6 +115,7 @@ pub fn stretch(t: &mut [u16], s: Sizes, o: Op, left: u16) -> u16
 
 // Takes a step, where the operation is accepted before it, and then steps while it is refused. Answers what is left of the moves, 0 where
 // no step can be taken or nothing runs before it is accepted again.
+// kept: 0 for none, as in stretch.
 #[tactic(auto, using(crate::specs::Stretches::gone_none, crate::specs::Stretches::shut))]
 pub fn go_on(t: &mut [u16], s: Sizes, o: Op, left: u16) -> u16
     requires { TableOf s t.old × ((begun o t.old).0 ≡ true) }

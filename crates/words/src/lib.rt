@@ -34,6 +34,7 @@ pub struct Queue(pub u16);
 #[derive(Clone, Copy, Default, PartialEq, Eq)]
 pub struct Node(pub u16);
 
+// kept: usize, as indices and sums are made of them; text::Opening and search::Asked hold any 16 bits, as told or asked.
 #[derive(Clone, Copy)]
 pub struct Sizes {
     pub levels: usize,
@@ -104,6 +105,7 @@ impl Node {
 }
 
 // Whether x is from..to.
+// kept: contains of a range says no more, and its contract is in words that no other crate can open.
 #[tactic(auto, unfolding(crate::specs::Layout::within))]
 pub fn between(from: usize, to: usize, x: usize) -> bool
     ensures { result ≡ within from to x }
@@ -119,6 +121,8 @@ pub fn in_limits(s: Sizes) -> bool
 }
 
 // How many words a table of these sizes has.
+// kept: Small is a clause and no invariant of Sizes: add_level answers one level more, which may not be small, and in_limits is asked of
+// any sizes.
 pub fn words_of(s: Sizes) -> usize
     requires { Small s }
     ensures { result ≡ words s }
@@ -135,6 +139,7 @@ fn peek(t: &[u16], i: usize) -> usize
 }
 
 // The sizes that the table's counts say.
+// kept: word by word, since where a count stands follows from the one before it, which no slice pattern says.
 fn counts(t: &[u16]) -> Sizes
     ensures value { result ≡ sizes_of t.now }
     ensures small { Small result }
@@ -160,6 +165,7 @@ fn agreeing(s: Sizes, t: &[u16]) -> bool
 }
 
 // The table's sizes, if its counts are right and it is long enough.
+#[tactic(auto, unfolding(crate::specs::Layout::measured))]
 pub fn measure(t: &[u16]) -> Option<Sizes>
     ensures { result ≡ measured t.now }
 {
@@ -168,16 +174,18 @@ pub fn measure(t: &[u16]) -> Option<Sizes>
 }
 
 // Writes the counts.
+#[tactic(auto, unfolding(crate::specs::Layout::put_counts))]
 pub fn put_counts(t: &mut [u16], s: Sizes)
     requires { Fits s t.old }
     ensures { t.new ≡ put_counts s t.old }
 {
-    t[0] = s.levels as u16;
-    t[1 + 2 * s.levels] = s.queues as u16;
-    t[2 + 2 * s.levels + 2 * s.queues] = s.nodes as u16;
-    t[3 + 2 * s.levels + 2 * s.queues + 2 * s.nodes] = s.levels as u16;
+    t[0] = narrow(s.levels);
+    t[1 + 2 * s.levels] = narrow(s.queues);
+    t[2 + 2 * s.levels + 2 * s.queues] = narrow(s.nodes);
+    t[3 + 2 * s.levels + 2 * s.queues + 2 * s.nodes] = narrow(s.levels);
 }
 
+#[tactic(auto, unfolding(crate::specs::Layout::has))]
 pub fn has_word(s: Sizes, w: Word) -> bool
     ensures { result ≡ has s w }
 {
@@ -192,6 +200,8 @@ pub fn has_word(s: Sizes, w: Word) -> bool
 }
 
 // Where a word stands.
+// kept: that the word, or the level, is one of the table's is a clause: table::load and table::store answer an Option where that is not
+// known.
 fn place(s: Sizes, w: Word) -> usize
     requires small { Small s }
     requires w_value { has s w ≡ true }
@@ -207,6 +217,10 @@ fn place(s: Sizes, w: Word) -> usize
     }
 }
 
+// kept: a table and its sizes are two parameters, here and in the crates above, with a clause of both (Fits, measured). A struct of both,
+// with Fits as its ghost field, proves for load and store; but half of the functions are lent the table by & and half by &mut, so that it
+// would be two structs with the same methods.
+#[tactic(auto, unfolding(crate::specs::Layout::rd))]
 pub fn load(t: &[u16], s: Sizes, w: Word) -> u16
     requires fits { Fits s t.now }
     requires w_value { has s w ≡ true }
@@ -216,6 +230,7 @@ pub fn load(t: &[u16], s: Sizes, w: Word) -> u16
     t[at]
 }
 
+#[tactic(auto, unfolding(crate::specs::Layout::wr))]
 pub fn store(t: &mut [u16], s: Sizes, w: Word, v: u16)
     requires fits { Fits s t.old }
     requires w_value { has s w ≡ true }
@@ -226,6 +241,7 @@ pub fn store(t: &mut [u16], s: Sizes, w: Word, v: u16)
 }
 
 // Where a level's frame starts.
+#[tactic(auto, unfolding(crate::specs::Layout::frame_at))]
 fn frame_place(s: Sizes, l: Level) -> usize
     requires small { Small s }
     requires l_lt_levels { l.0 < s.levels }
@@ -234,6 +250,8 @@ fn frame_place(s: Sizes, l: Level) -> usize
     4 + 2 * s.levels + 2 * s.queues + 2 * s.nodes + 11 * l.index()
 }
 
+// kept: beside load, since no frame's word has a name (Word, and has, addr, rd over it); a number, as Frame's op.
+#[tactic(auto, unfolding(crate::specs::Layout::frame_of))]
 pub fn op_of(t: &[u16], s: Sizes, l: Level) -> u16
     requires fits { Fits s t.now }
     requires l_lt_levels { l.0 < s.levels }
@@ -243,6 +261,8 @@ pub fn op_of(t: &[u16], s: Sizes, l: Level) -> u16
     t[b]
 }
 
+// kept: by place, as frame_of says them: a slice pattern of eleven names would want an else that never runs.
+#[tactic(auto, unfolding(crate::specs::Layout::frame_of))]
 pub fn read_frame(t: &[u16], s: Sizes, l: Level) -> Frame
     requires fits { Fits s t.now }
     requires l_lt_levels { l.0 < s.levels }

@@ -1,6 +1,7 @@
 -- From words to schedules that can be written, and back.
-use Rattle.std.specs.Prelude.{ℕ, zero, suc, ◌+◌, ◌≤◌, ◌≡◌, refl, List, [], ◌∷◌, ◌++◌, Bool, true, false, ◌&&◌, length, get_or, drop, Some}
+use Rattle.std.specs.Prelude.{ℕ, zero, suc, ◌+◌, ◌≤◌, ◌≡◌, refl, List, [], ◌∷◌, ◌++◌, length, get_or, drop, Some}
 use Rattle.std.proofs.Common.{sym, ap, ◌∙◌, append_assoc, append-nil, arith, add-zero, length-drop, get_or-drop, le-leb}
+use Rattle.std.proofs.Math.Bool.{and-false}
 use Rattle.text.specs.declared.Opening.{Opening}
 use Rattle.text.specs.declared.Event.{Event}
 use Rattle.text.specs.declared.Event.TheVariants.{Enqueue, Dequeue, Steps}
@@ -85,10 +86,6 @@ stands words text s h =
 word : (words rest : List ℕ) (at i : ℕ) → drop at words ≡ rest → get_or words (at + i) 0 ≡ get_or rest i 0
 word words rest at i e = sym (get_or-drop at words i 0) ∙ ap (λ (l : List ℕ). get_or l i 0) e
 
-and_false : (b : Bool) → (b && false) ≡ false
-and_false true = refl
-and_false false = refl
-
 record EventNext (e : Event) (words : List ℕ) (at : ℕ) (rest : List ℕ) : Type 0 where
   next : ℕ
   is : event_in words at ≡ Some (e, next)
@@ -111,7 +108,7 @@ event_next (Dequeue l q) words rest at s e =
     let kind : get_or words at 0 ≡ 2 = rw add-zero at (w 0 e) in
     record {
       next = at + 3;
-      is = simp (kind, and_false, le-leb (at + 3) (length words) long, w 1 e, w 2 e);
+      is = simp (kind, and-false, le-leb (at + 3) (length words) long, w 1 e, w 2 e);
       then = after words (event_words (Dequeue l q)) rest at e;
     }
 event_next (Steps count) words rest at s e =
@@ -120,7 +117,7 @@ event_next (Steps count) words rest at s e =
     let kind : get_or words at 0 ≡ 3 = rw add-zero at (w 0 e) in
     record {
       next = at + 2;
-      is = simp (kind, and_false, le-leb (at + 2) (length words) long, w 1 e, le-leb 1 count s.1);
+      is = simp (kind, and-false, le-leb (at + 2) (length words) long, w 1 e, le-leb 1 count s.1);
       then = after words (event_words (Steps count)) rest at e;
     }
 

@@ -43,6 +43,7 @@ fn event_in(words: &[u16], at: usize) -> Option<(Event, usize)>
     }
 }
 
+// kept: by place: a slice pattern would want an else that never runs, as the words are there.
 fn opening_in(words: &[u16]) -> Opening
     requires { 4 ≤ length words.now }
     ensures { result ≡ opening_in words.now }
@@ -56,6 +57,8 @@ fn opening_in(words: &[u16]) -> Opening
 }
 
 // The length of a text that starts with so many bytes and has so many events after them.
+// kept: measured and written in two walks: the first may meet a wrong line, the second meets none and has room (lengths_in, lines_in).
+// kept: no Display, as in lines; and words with a place in them, from 4 on, as the definitions count (lengths_in, lines_in).
 #[tactic(auto, using(crate::specs::Laws::lengths), unfolding(text::specs::Reading::line_answer))]
 fn measure_events(words: &[u16], start: usize, count: u16) -> Result<usize, BadLine>
     requires { (4 ≤ length words.now) × (start ≤ 26) }

@@ -1,6 +1,6 @@
 use Rattle.loglines.specs.Laws.{writes_then}
 use Rattle.outcomes.specs.Lines.{outcome_line}
-use Rattle.outcomes.proofs.put_outcome.Goals as goal
+use Rattle.outcomes.proofs.Tallies.put_outcome.Goals as goal
 
 pub returns : goal.returns
 unfolding outcome_line

@@ -1,6 +1,6 @@
 use Rattle.std.proofs.Common.{◌+◌, ◌*◌, ◌-◌, ◌∙◌, arith}
 use Rattle.outcomes.specs.TalliesLaws.{key_compared}
-use Rattle.outcomes.proofs.has_key.Goals as goal
+use Rattle.outcomes.proofs.Tallies.has_key.Goals as goal
 
 pub returns : goal.returns
 returns c =

@@ -1,6 +1,0 @@
-use Rattle.words.specs.Layout.{rd}
-use Rattle.words.proofs.load.Goals as goal
-
-pub returns : goal.returns
-unfolding rd
-returns c = cc
