@@ -28,6 +28,7 @@ pub extern "C" fn exports_try_schedules(
 {
     match tries::try_schedules(levels, queues, nodes, ops, bound, room) {
         Ok(tried) => {
+            // kept: as, since std has no From of a usize for u64.
             *told = [u64::from(tried.count), tried.bytes as u64];
             pack(u16::from(tried.more), 0)
         }

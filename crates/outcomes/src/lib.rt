@@ -273,6 +273,7 @@ fn add_entry(tallies: &mut [u64], n: usize, key: &[u64; 4])
     ensures { tallies.new ≡ add_entry tallies.old n key.now }
 {
     let at = 2 + 5 * n;
+    // kept: as, since std has no From of a usize for u64.
     tallies[0] = (n + 1) as u64;
     tallies[at] = 1;
     tallies[at + 1..at + 5].copy_from_slice(key);

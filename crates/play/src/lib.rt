@@ -10,6 +10,7 @@ use answers::{Refusal, Why};
 use loglines::Pen;
 use text::Event;
 
+// kept: table, pen and bound are lent apart, and play_events promises of each; a struct would be made for its two helpers alone.
 fn play_steps(
     table: &mut [u16],
     pen: &mut Pen,

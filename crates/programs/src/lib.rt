@@ -5,6 +5,7 @@ ghost use Rattle.std.specs.Prelude.{◌<◌, ◌^◌};
 use logs::Kind;
 
 // In lent text, table and room: 65,537 bytes of text, so that one too many is seen, and what write_log asks for.
+// kept: text, table and room are lent apart: each has its own borrow, and write_log's promise names each.
 pub fn print_log(
     rt: &HostRuntime,
     kind: Kind,

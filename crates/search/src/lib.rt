@@ -98,6 +98,8 @@ pub const WORDS: usize = 2276;
 pub const SMALL: usize = 256;
 
 impl Asked {
+    // kept: three fields to three, as in fresh_table and outcomes::Trial; a function of three numbers would be called with the same
+    // lines.
     pub fn sizes(&self) -> Sizes
         ensures { result ≡ sizes_of self.now }
     {

@@ -144,6 +144,7 @@ pub enum After {
 }
 
 // Go to the point x.
+// kept: points are numbers, as said at Point; so in below_k and below_m.
 fn go(f: Frame, x: u16) -> After
     ensures { result ≡ go_to x f }
 {
@@ -203,7 +204,8 @@ fn store(t: &mut [u16], s: Sizes, w: Word, v: u16) -> Option<()>
 // The step table: a case for each point, in document 01's order, with its one access, its tests and its next points. The frame is held
 // beside the table: q and n are its queue and node, k to m its words of these names. x is what was loaded. None: the access is to a word
 // that is not one of the table's, or there is no such point.
-// kept: one match on the point, since a frame holds its point as a number in words that a caller lends, which no closure can stand for.
+// kept: one match on the point, since a frame holds its point as a number in words that a caller lends, which no closure can stand for. Op
+// is a number as in words::Frame, and an end's node 0 for empty as in After; at D5 the sentinel is told from a node by number.
 pub fn turn(t: &mut [u16], s: Sizes, l: Level, top: Level, mut f: Frame) -> Option<After>
     requires { Fits s t.old }
     ensures { turned s t.old (row (point_of f.point) f l top) ≡ (result, t.new) }

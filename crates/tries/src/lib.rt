@@ -102,6 +102,7 @@ pub const LONGEST: usize = 202;
 fn is_short(request: Search<'_>, room: &mut [u8]) -> bool
     ensures { (result ≡ short request.entry.asked request.entry.ops.now room.old) × (room.new ≡ room.old) }
 {
+    // kept: as, since std has no From of a usize for u64.
     if request.asked.bound <= (room.len() / LONGEST) as u64 {
         return false;
     }
@@ -142,6 +143,7 @@ fn list_texts(request: Search<'_>, room: &mut [u8]) -> Result<Tried, Refusal>
         &mut [],
     );
     Ok(Tried {
+        // kept: as, since a count is at most the bound, a u32: try_from would bring an error that no caller has.
         count: listed.count as u32,
         bytes: listed.at,
         more: !listed.is_open(),

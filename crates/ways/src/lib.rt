@@ -53,6 +53,7 @@ fn may_begin(t: &[u16], s: Sizes, o: Op) -> bool
 
 // Begins the operation, which is accepted, on a table that was measured.
 // kept: op is a number, as said at Op.
+// kept: that the operation is accepted is a clause: it is of the table as it is now, which the next step changes.
 #[tactic(auto, using(crate::specs::Calls::accepted))]
 fn put_begin(t: &mut [u16], s: Sizes, o: Op)
     requires { TableOf s t.old × ((begun o t.old).0 ≡ true) }

@@ -241,6 +241,7 @@ pub fn store(t: &mut [u16], s: Sizes, w: Word, v: u16)
 }
 
 // Where a level's frame starts.
+// kept: a level of the table is a clause of four functions; a type for it would hold the sizes too.
 #[tactic(auto, unfolding(crate::specs::Layout::frame_at))]
 fn frame_place(s: Sizes, l: Level) -> usize
     requires small { Small s }
