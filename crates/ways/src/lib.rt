@@ -9,8 +9,8 @@ use answers::Why;
 use words::{Level, Node, Queue, Sizes};
 
 // An operation: op 1 is an enqueue, op 2 with node 0 a dequeue; any other is never accepted.
-// kept: op is a number, as in the words that C lends. One that is none has a level, a queue and a node too, of which `op_event` speaks, and
-// with it what entries promises of any words: an enum would need a third variant with all four.
+// kept: op is a number, as in the words that C lends. One that is none has a level, a queue and a node too, of which `op_event` speaks,
+// and with it what entries promises of any words: an enum would need a third variant with all four.
 #[derive(Clone, Copy)]
 pub struct Op {
     pub op: u16,
