@@ -35,8 +35,8 @@ fn enqueue_most(l: Level, nodes: u16) -> usize
     (usize::from(l.0) + 2) * (usize::from(nodes) + 6)
 }
 
-// kept: no `Display` and `write!` for the lines. What these promise they promise of an `Ok` alone (`WritesOnOk`), and a pen's bytes are said
-// also where its room ends within a line; and their numbers have all their digits, where `digits_of` has five at most.
+// kept: no `Display` and `write!` for the lines. What these promise they promise of an `Ok` alone (`WritesOnOk`), and a pen's bytes are
+// said also where its room ends within a line; and their numbers have all their digits, where `digits_of` has five at most.
 impl Pen<'_> {
     ghost use Rattle.loglines.specs.Ink.{Writes};
 
@@ -103,8 +103,8 @@ impl Pen<'_> {
         self.put_field(usize::from(e.node.0), SPACE);
     }
 
-    // `E level queue node steps` or `D level queue node steps`; beside an enqueue's steps, if a number of nodes is given, the bound on them
-    // in a table of so many
+    // `E level queue node steps` or `D level queue node steps`; beside an enqueue's steps, if a number of nodes is given, the bound on
+    // them in a table of so many
     pub fn put_end(&mut self, e: End, bound_nodes: Option<u16>)
         ensures { Writes self.old self.new (line_of bound_nodes e) }
     {
