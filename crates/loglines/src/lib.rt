@@ -103,8 +103,8 @@ impl Pen<'_> {
         self.put_field(usize::from(e.node.0), SPACE);
     }
 
-    // `E level queue node steps` or `D level queue node steps`; beside an enqueue's steps, if a number of nodes is given, the bound on
-    // them in a table of so many
+    // `E level queue node steps` or `D level queue node steps`; beside an enqueue's steps, if a number of nodes is given, the bound on them
+    // in a table of so many
     pub fn put_end(&mut self, e: End, bound_nodes: Option<u16>)
         ensures { Writes self.old self.new (line_of bound_nodes e) }
     {
