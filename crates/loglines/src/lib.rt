@@ -35,8 +35,8 @@ fn enqueue_most(l: Level, nodes: u16) -> usize
     (usize::from(l.0) + 2) * (usize::from(nodes) + 6)
 }
 
-// kept: no `Display` and `write!` for the lines. What these promise they promise of an `Ok` alone (`WritesOnOk`), and a pen's bytes are said
-// also where its room ends within a line; and their numbers have all their digits, where `digits_of` has five at most.
+// kept: no `Display` and `write!` for the lines. What these promise they promise of an `Ok` alone (`WritesOnOk`), and a pen's bytes are
+// said also where its room ends within a line; and their numbers have all their digits, where `digits_of` has five at most.
 impl Pen<'_> {
     ghost use Rattle.loglines.specs.Ink.{Writes};
 
