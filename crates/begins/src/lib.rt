@@ -10,9 +10,9 @@ use answers::Refusal;
 use table::Point;
 use words::{Frame, Level, Node, Queue, Sizes, Word};
 
-// An enqueue and a dequeue each have their three functions below: kept apart, since they share three tests and the order of the calls, and
-// one function that takes the others as closures would be longer than the two. Level, queue and node are three parameters, as document 01's
-// calls have them.
+// kept: an enqueue and a dequeue have three functions each, since they share three tests and the order of the calls alone, and one function
+// that takes the others as closures would be longer than the two. Level, queue and node are three parameters, as document 01's calls have
+// them.
 
 // The frame of an operation that begins.
 // kept: op and point are numbers, as in words::Frame.

@@ -90,7 +90,7 @@ fn put_end(end: &mut [u16; 5], e: End)
     *end = [e.op, e.level.0, e.queue.0, e.node.0, e.steps];
 }
 
-// Of a step and of a run, which have an end in different places: kept two, as one over both would first make an Option of each.
+// kept: one of a step and one of a run, which have their end in different places; one over both would first make an Option of each.
 fn put_step_end(end: &mut [u16; 5], a: Result<Option<End>, Refusal>)
     ensures { end.new ≡ step_end (step_says a) end.old }
 {

@@ -23,8 +23,8 @@ ghost use Rattle.words.specs.Layout.{
 ghost use Rattle.words.specs.Copy.{taller, raised};
 ghost use Rattle.words.specs.Inner.{Small, Fits, Placed};
 
-// A level, a queue and a node: three kinds of number. Each is a struct of its own and becomes an index in one place of its own, as document
-// 01 asks, so the three `index` stand side by side.
+// A level, a queue and a node: three kinds of number.
+// kept: each is a struct of its own and becomes an index in one place of its own, as document 01 asks.
 #[derive(Clone, Copy, Default, PartialEq, Eq)]
 pub struct Level(pub u16);
 
@@ -53,8 +53,9 @@ pub enum Word {
     Use(Node),
 }
 
-// A level's frame, as its words stand in the table. Op and point are kept numbers: a damaged table's frame holds any number there, a step
-// answers refusal 10 to it, and what is written back has to be what was read (`frame_of`, `put_frame`).
+// A level's frame, as its words stand in the table.
+// kept: op and point are numbers, since a damaged table's frame holds any number there, a step answers refusal 10 to it, and what is written
+// back has to be what was read (`frame_of`, `put_frame`).
 #[derive(Clone, Copy, Default)]
 pub struct Frame {
     pub op: u16,

@@ -21,6 +21,3 @@ loop-i-init c = (refl, refl)
 
 pub loop-i-preserved : goal.loop-i-preserved
 loop-i-preserved c = (search rules, ended_more _ _ _ _ _ _ c.loop-i.invariant.1 (rw c.narrow-q.ensures at c.store.ensures) (rw c.narrow-q.ensures at c.store-in-loop-i.ensures))
-
-pub returns : goal.returns
-returns c = let z : c.loop-i.i ≡ c.args.s.queues = omega arith in c.loop-i.invariant.1 ∙ ap (λ (i : ℕ). ended c.args.s i c.args.t.now) z

@@ -6,16 +6,6 @@ use Rattle.steps.proofs.Levels.{levels_start, levels_none, levels_idle, levels_m
 use Rattle.steps.proofs.Singly.{sized_ended_within, sized_within, ran_kept, run_down}
 use Rattle.steps.proofs.run_levels.Goals as goal
 
-pub loop-left-init : goal.loop-left-init
-loop-left-init c =
-    record {
-      low = omega arith;
-      sized = c.requires;
-      top_le = omega arith;
-      serves = refl;
-      ran = levels_start c.args.s c.args.whole c.args.budget c.args.t.now;
-    }
-
 pub returns-in_default : goal.returns-in_default
 returns-in_default c =
     let i = c.loop-left.invariant in

@@ -13,9 +13,6 @@ pub returns-in_err-request-clause-tallies_value : goal.returns-in_err-request-cl
 returns-in_err-request-clause-tallies_value c =
     let told = c.in_err-request.ensures in λ w. tallies_refused _ _ _ _ _ told _
 
-pub count_all-requires : goal.count_all-requires
-count_all-requires c = rw c.in_ok-request.ensures.0 (c.requires, refl)
-
 pub returns-clause-ops_value : goal.returns-clause-ops_value
 returns-clause-ops_value c =
     let told = c.in_ok-request.ensures in

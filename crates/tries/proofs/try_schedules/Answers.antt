@@ -9,9 +9,6 @@ returns-in_err-request c =
     let said = try_refused c.args.levels c.args.queues c.args.nodes c.args.ops.now _ told c.args.bound c.args.room.now in
     search (rules, said)
 
-pub list_texts-requires : goal.list_texts-requires
-list_texts-requires c = rw c.in_ok-request.ensures.0 (omega arith)
-
 pub returns : goal.returns
 returns c =
     let told = c.in_ok-request.ensures in

@@ -37,9 +37,6 @@ put_dequeue-requires-in-Ended c =
     let after = ran_ended c.loop-left.invariant.1 _ _ _ _ (rw c.in-Ended.is at c.run_level-ran.ensures) in
     record { fits = after.0.fits; q_value = alone_begins after.0 after.1 }
 
-pub overflow_add-n : goal.overflow_add-n
-overflow_add-n c = omega (arith, c.loop-left.invariant.2, c.requires.l_value.1, c.loop-left-test.true)
-
 pub loop-left-smaller-in-Ended : goal.loop-left-smaller-in-Ended
 loop-left-smaller-in-Ended c =
     let within = sized_ended_within _ _ _ _ _ _ (rw c.in-Ended.is at c.run_level-ran.ensures) in

@@ -12,10 +12,6 @@ copy_part-requires c = let pre_0 = c.requires.t_value in
     let pre_1 = c.requires.copy_len in
     let fits = measured_fits _ _ pre_0 in (omega (arith, fits.room), omega (arith, pre_1))
 
-pub bounds-copy-cut-2 : goal.bounds-copy-cut-2
-bounds-copy-cut-2 c = let pre_1 = c.requires.copy_len in
-    simp length-set (omega (arith, pre_1))
-
 pub words_of-requires : goal.words_of-requires
 words_of-requires c = let pre_0 = c.requires.t_value in
     let lim = measured_limits _ _ pre_0 in
@@ -80,21 +76,6 @@ put_counts-requires c = let pre_0 = c.requires.t_value in
       queues = omega (arith, lim.queues);
       nodes = omega (arith, lim.nodes);
     })
-
-pub shape_of-copy : goal.shape_of-copy
-shape_of-copy c = let pre_0 = c.requires.t_value in
-    let args_s = c.args.s in
-    let args_t_now = c.args.t.now in
-    let args_copy_now = c.args.copy.now in
-    let pre_1 = c.requires.copy_len in
-    let put_counts_says = c.put_counts.ensures in
-    let write_frame_says = c.write_frame.ensures in
-    let copy_part2_says = c.copy_part-2.ensures in
-    let words_of_says = c.words_of.ensures in
-    let copy_part_says = c.copy_part.ensures in
-    let fits = measured_fits _ _ pre_0 in
-    let long = parts_long args_s args_t_now args_copy_now fits.room pre_1 in
-    rw (put_counts_says, counts_length, write_frame_says, put_length, copy_part2_says, words_of_says, copy_part_says) long
 
 pub returns : goal.returns
 unfolding raised
