@@ -7,11 +7,12 @@ use Rattle.std.proofs.Math.Bool.{and-eq-true_iff}
 use mathlib.Core.List.{List, [], ◌++◌, append-nil}
 use Rattle.std.proofs.lemmas.List.{length-replicate}
 use Rattle.std.proofs.Math.Seq.{drop-length}
-use borrow.Author.Tests.{lt-ltb, le-ltb, ltb-false}
+use borrow.Author.Tests.{lt-ltb, le-ltb, ltb-false, ne_eqb}
 use Rattle.words.specs.declared.Sizes.{Sizes}
 use Rattle.words.specs.declared.Frame.{Frame}
 use Rattle.words.specs.Layout.{level, limits, within, words, put_counts, frame_of}
 use Rattle.words.specs.Laws.{within_high}
+use Rattle.words.specs.Copies.{part_length}
 use Rattle.answers.specs.declared.Refusal.{Refusal}
 use Rattle.answers.specs.Said.{Said, refused, says, number}
 use Rattle.fresh.specs.Fresh.{cleared, ended, fresh_table, fresh_of}
@@ -55,6 +56,10 @@ why_2 s k h e = rw (le-ltb 6 k h, e) (by (ltb 1024 s.nodes))
     by : (b : Bool) → ◌≡◌ {A = ℕ} (cond b 2 2) 2
     by true = refl
     by false = refl
+
+pub why_many : (s : Sizes) (k : ℕ) → k ≤ 6 → 1024 < s.nodes → why s k ≡ 2
+unfolding why
+why_many s k h n = rw (le-ltb 6 k h, lt-ltb 1024 s.nodes n) refl
 
 pub why_none : (s : Sizes) (k : ℕ) → k ≤ 6 → limits s ≡ true → why s k ≡ 0
 unfolding why limits
@@ -174,3 +179,24 @@ module _ (l q n : ℕ) (ws : List ℕ) where
         → us ≡ tallied_all (sizes l q n) ws (length ws / 4) (schedules (sizes l q n) (operations ws)) ts → tallies_of l q n ws ts ≡ us
     unfolding tallies_of
     tallies_on ts us e = rw (none, e) refl
+
+-- whatever the number of the refusal
+module _ (l q n : ℕ) (ws : List ℕ) (some : why (sizes l q n) (length ws / 4) ≡ 0 → ⊥) where
+  abbrev why_some : ℕ
+  why_some = why (sizes l q n) (length ws / 4)
+
+  pub try_refused_by : (bound : ℕ) (room : List ℕ) → tries_of l q n ws bound room ≡ (refused why_some, room)
+  unfolding tries_of
+  try_refused_by bound room = rw (ne_eqb why_some 0 some) refl
+
+  pub number_refused_by : number_of l q n ws ≡ refused why_some
+  unfolding number_of
+  number_refused_by = rw (ne_eqb why_some 0 some) refl
+
+  pub tallies_refused_by : (ts : List ℕ) → tallies_of l q n ws ts ≡ ts
+  unfolding tallies_of
+  tallies_refused_by ts = rw (ne_eqb why_some 0 some) refl
+
+-- the part of an array that a table takes
+pub part_is : (s : Sizes) (w : ℕ) → w ≡ words s → limits s ≡ true → length (take w (replicate {A = ℕ} 2276 0)) ≡ words s
+part_is s w e h = part_length w 2276 (rw e (words_fit s h)) ∙ e

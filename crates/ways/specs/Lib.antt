@@ -3,3 +3,4 @@ pub mod Forced
 pub mod Calls
 pub mod Runs
 pub mod Stretches
+pub mod Copies

@@ -142,6 +142,10 @@ module _ (o : Op) (s : Sizes) (t u : List ℕ) (m : measured t ≡ Some s) where
       let still : (begun o u).0 ≡ true = begun_steady o s t u m kept steady ∙ h in
       (gone_step left (says going_on) z e ∙ stretch_open o (left - 1) u still, kept, still)
 
+  -- whatever the number
+  pub gone_refused_by : (left r : ℕ) → (left ≡ 0 → ⊥) → step_sized s t ≡ (refused r, u) → gone_on o left t ≡ (0, u)
+  gone_refused_by left r z e = gone_step left (refused r) z e
+
   -- by what the step answers
   module _ (left : ℕ) (x : Result (Option End) Refusal) (some : left ≡ 0 → ⊥) (took : step_sized s t ≡ (step_says x, u)) where
     pub gone_table : measured u ≡ Some s
@@ -154,7 +158,7 @@ module _ (o : Op) (s : Sizes) (t u : List ℕ) (m : measured t ≡ Some s) where
     gone_ended d e = gone_step left (says (ended d)) some (rw e at took)
 
     pub gone_refused : (r : Refusal) → x ≡ Err r → gone_on o left t ≡ (0, u)
-    gone_refused r e = gone_step left (refused (number r)) some (rw e at took)
+    gone_refused r e = gone_refused_by left (number r) some (rw e at took)
 
 pub gone_none : (o : Op) (left : ℕ) (t : List ℕ) → left ≡ 0 → gone_on o left t ≡ (0, t)
 unfolding gone_on
