@@ -100,7 +100,8 @@ found_is line (Some (d, p)) e next h = let x = given_is d e p next h in rw (x.0,
 found_is line None e next h = cc
 
 -- the lines are those of the events
-told_lines : (k line : ℕ) (words : List ℕ) (at : ℕ) (es : List Event) → events_in k line words at ≡ gives es → lines_in k words at ≡ events_text es
+told_lines : (k line : ℕ) (words : List ℕ) (at : ℕ) (es : List Event) → events_in k line words at ≡ gives es
+    → lines_in k words at ≡ events_text es
 unfolding events_in lines_in events_text
 told_lines zero line words at es h = let e : [] ≡ es = cc in rw (← e)
 told_lines (suc k) line words at es h =
