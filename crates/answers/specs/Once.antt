@@ -8,7 +8,7 @@ use Rattle.answers.specs.declared.Why.{Why}
 use Rattle.answers.specs.declared.Why.TheVariants as why
 use Rattle.answers.specs.declared.Refusal.{Refusal}
 use Rattle.answers.specs.declared.Refusal.TheVariants as refusal
-use Rattle.answers.specs.Said.{Said, number, answer_says, step_says, why_says, run_says}
+use Rattle.answers.specs.Said.{Said, number, refusal_number, answer_says, step_says, why_says, run_says}
 
 -- of a call that only reads, whatever it answers
 pub once_read : {A S : Type 0} (say : A → S) → ((a b : A) → say a ≡ say b → a ≡ b) → {x : S} {a b : A} → x ≡ say a → x ≡ say b → a ≡ b
@@ -69,6 +69,17 @@ one_answer (Err r) (Err q) e = let n : number r ≡ number q = cc in ap (λ z. E
 -- of `quiet` and `waiting`, which only read
 pub one_read : {A : Type 0} {x : Said A} {a b : Result A Refusal} → x ≡ answer_says a → x ≡ answer_says b → a ≡ b
 one_read p q = once_read answer_says one_answer p q
+
+-- of what may be refused, by the refusal's number, 0 for none
+one_refused : (a b : Result Unit Refusal) → refusal_number a ≡ refusal_number b → a ≡ b
+unfolding named
+one_refused (Ok x) (Ok y) e = refl
+one_refused (Ok x) (Err r) e = let none : None ≡ Some r = ap named e ∙ named_number r in cc
+one_refused (Err r) (Ok y) e = let none : Some r ≡ None = sym (named_number r) ∙ ap named e in cc
+one_refused (Err r) (Err q) e = ap (λ z. Err z) (one_refusal r q e)
+
+pub one_why : {n : ℕ} {a b : Result Unit Refusal} → refusal_number a ≡ n → refusal_number b ≡ n → a ≡ b
+one_why p q = one_refused _ _ (p ∙ sym q)
 
 pub one_step : (a b : Result (Option End) Refusal) → step_says a ≡ step_says b → a ≡ b
 one_step (Ok None) (Ok None) e = refl

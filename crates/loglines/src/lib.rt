@@ -17,11 +17,14 @@ ghost use Rattle.loglines.specs.Lines.{
 use answers::End;
 use words::{Level, Queue};
 
-// Lent room, and how many of its bytes are written; none, where the room was too small for the next one: then no more is written.
+// How many bytes are written; none, where the room was too small for the next one: then no more is written.
+pub type Pen = Option<usize>;
+
+// Lent room, and where the pen stands in it. The pen can be copied; the room, which is lent to one alone, cannot.
 #[derive(Drop)]
-pub struct Pen<'a> {
+pub struct Sheet<'a> {
     pub room: &'a mut [u8],
-    pub at: Option<usize>,
+    pub at: Pen,
 }
 
 const SPACE: u8 = 32;
@@ -35,9 +38,9 @@ fn enqueue_most(l: Level, nodes: u16) -> usize
     (usize::from(l.0) + 2) * (usize::from(nodes) + 6)
 }
 
-// kept: no `Display` and `write!` for the lines. What these promise they promise of an `Ok` alone (`WritesOnOk`), and a pen's bytes are
+// kept: no `Display` and `write!` for the lines. What these promise they promise of an `Ok` alone (`WritesOnOk`), and a sheet's bytes are
 // said also where its room ends within a line; and their numbers have all their digits, where `digits_of` has five at most.
-impl Pen<'_> {
+impl Sheet<'_> {
     ghost use Rattle.loglines.specs.Ink.{Writes};
 
     fn put_byte(&mut self, b: u8)

@@ -1,5 +1,5 @@
 -- What the proofs of the log cite.
-use Rattle.std.specs.Prelude.{ℕ, zero, suc, ◌+◌, ◌≤◌, ◌<◌, Bool, true, false, Option, Some, None, cond, take, drop, replicate, ltb}
+use Rattle.std.specs.Prelude.{ℕ, zero, suc, ◌+◌, ◌-◌, ◌≤◌, ◌<◌, Bool, true, false, Option, Some, None, cond, take, drop, replicate, ltb}
 use Rattle.std.proofs.Math.Path.{◌≡◌, refl, sym, ap}
 use Rattle.std.proofs.Common.{◌∙◌, arith, add-one, add-zero, append-nil, append_assoc, length-append}
 use mathlib.Core.List.{List, [], ◌∷◌, ◌++◌}
@@ -17,7 +17,7 @@ use Rattle.text.specs.Laws.{onto_is, given_is}
 use Rattle.schedule.specs.Whole.{rest_by, check_by, events_reading, schedule_reading, rest_reading, check_reading}
 use Rattle.asks.specs.Listing.{listing_of}
 use Rattle.loglines.specs.Lines.{text_line, sizes_line, queue_line, unquiet_line}
-use Rattle.loglines.specs.declared.Pen.{Pen}
+use Rattle.loglines.specs.declared.Sheet.{Sheet}
 use Rattle.loglines.specs.Ink.{Page, ink, Writes}
 use Rattle.loglines.specs.Laws.{ink_then, ink_all, writes_none, writes_then}
 use Rattle.fresh.specs.Fresh.{fresh_of}
@@ -64,13 +64,33 @@ queues_last t q (suc n) =
     let rest = queues_last t (suc q) n in
     rw add-one (simp (append_assoc, ← next) (ap (λ (w : List ℕ). queue_of t q ++ w) (rw add-one at rest)))
 
-pub queues_none : (p : Pen) (t : List ℕ) → Writes p p (queues_of t 1 0)
+pub writes_queues : (p : Sheet) (t : List ℕ) → Writes p p (queues_of t 1 0)
 unfolding queues_of
-queues_none p t = writes_none p
+writes_queues p t = writes_none p
 
-pub queues_more : {p q r : Pen} (t : List ℕ) (i : ℕ) → Writes p q (queues_of t 1 i) → Writes q r (queue_of t (i + 1))
+pub writes_queue : {p q r : Sheet} (t : List ℕ) (i : ℕ) → Writes p q (queues_of t 1 i) → Writes q r (queue_of t (i + 1))
     → Writes p r (queues_of t 1 (i + 1))
-queues_more t i x y = let e : 1 + i ≡ i + 1 = omega arith in rw (queues_last t 1 i, e) (writes_then _ _ x y)
+writes_queue t i x y = let e : 1 + i ≡ i + 1 = omega arith in rw (queues_last t 1 i, e) (writes_then _ _ x y)
+
+-- of the queues that are left to write: one more, none, and all of them
+
+pub queues_more : {y : Page} (x : Page) (t : List ℕ) (i queues : ℕ) → i < queues → ink x (queue_of t (i + 1)) ≡ y
+    → ink x (queues_of t (i + 1) (queues - i)) ≡ ink y (queues_of t (i + 1 + 1) (queues - (i + 1)))
+unfolding queues_of
+queues_more {y} x t i queues h e = by (queues - i) (omega arith)
+  where
+    by : (k : ℕ) → k ≡ suc (queues - (i + 1)) → ink x (queues_of t (i + 1) k) ≡ ink y (queues_of t (i + 1 + 1) (queues - (i + 1)))
+    by k f =
+        ap (λ (j : ℕ). ink x (queues_of t (i + 1) j)) f
+        ∙ ink_then x (queue_of t (i + 1)) (queues_of t (suc (i + 1)) (queues - (i + 1))) e refl
+        ∙ rw (add-one (i + 1))
+
+pub queues_none : (x : Page) (t : List ℕ) (i queues : ℕ) → queues ≤ i → ink x (queues_of t (i + 1) (queues - i)) ≡ x
+unfolding queues_of ink
+queues_none x t i queues h = let e : queues - i ≡ 0 = omega arith in rw e
+
+pub queues_start : (x : Page) (t : List ℕ) (queues : ℕ) → ink x (queues_of t 1 queues) ≡ ink x (queues_of t (0 + 1) (queues - 0))
+queues_start x t queues = let e : queues ≡ queues - 0 = omega arith in ap (λ (k : ℕ). ink x (queues_of t 1 k)) e
 
 -- ---- the events, and then the queues
 

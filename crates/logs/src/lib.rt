@@ -18,7 +18,7 @@ ghost use Rattle.logs.specs.Log.{
 ghost use Rattle.logs.specs.Parts.{placed_log};
 
 use answers::Refusal;
-use loglines::Pen;
+use loglines::{Pen, Sheet};
 use text::{BadLine, Opening};
 use words::Queue;
 
@@ -58,55 +58,69 @@ impl Kind {
 }
 
 // The queue's last line.
-fn write_queue(table: &[u16], pen: &mut Pen, q: Queue)
-    ensures { Writes pen.old pen.new (queue_of table.now q.0) }
+fn write_queue(table: &[u16], sheet: &mut Sheet, q: Queue)
+    ensures { Writes sheet.old sheet.new (queue_of table.now q.0) }
 {
     let mut nodes = [0u16; 1024];
     match asks::listing(table, q, &mut nodes) {
-        Ok(n) => pen.put_queue(q, &nodes[..usize::from(n)]),
-        Err(_) => pen.put_unquiet(q),
+        Ok(n) => sheet.put_queue(q, &nodes[..usize::from(n)]),
+        Err(_) => sheet.put_unquiet(q),
     }
 }
 
-fn write_queues(table: &[u16], pen: &mut Pen, queues: u16)
-    ensures { Writes pen.old pen.new (queues_of table.now 1 queues) }
+fn write_queues(table: &[u16], sheet: &mut Sheet, queues: u16)
+    ensures { Writes sheet.old sheet.new (queues_of table.now 1 queues) }
 {
     for i in 0..queues {
-        write_queue(table, pen, Queue(i + 1));
+        write_queue(table, sheet, Queue(i + 1));
     }
 }
 
 // The log of a text that is right, whose events start at place.
-fn write_played(kind: Kind, text: &[u8], place: usize, o: Opening, table: &mut [u16], pen: &mut Pen)
-    ensures { Plays pen.old pen.new (placed_log kind o text.now place (fresh_of (opening_sizes o) table.old)) table.new }
+fn write_played(
+    kind: Kind,
+    text: &[u8],
+    place: usize,
+    o: Opening,
+    table: &mut [u16],
+    sheet: &mut Sheet,
+)
+    ensures { Plays sheet.old sheet.new (placed_log kind o text.now place (fresh_of (opening_sizes o) table.old)) table.new }
 {
     match fresh::fresh_table(table, o.levels, o.queues, o.nodes) {
         Ok(()) => {
-            play::play_events(text, place, o.events, table, pen, kind.bound_nodes(o.nodes));
-            write_queues(table, pen, o.queues);
+            play::play_events(
+                text,
+                place,
+                o.events,
+                table,
+                sheet,
+                kind.bound_nodes(o.nodes),
+            );
+            write_queues(table, sheet, o.queues);
         }
         // kept: document 01 wants the bytes of R 0 2 written as a fixed byte string.
-        Err(_) => pen.put(b"R 0 2\n"),
+        Err(_) => sheet.put(b"R 0 2\n"),
     }
 }
 
 // The log of any text, as far as the room reaches.
-fn write_whole(kind: Kind, text: &[u8], table: &mut [u16], pen: &mut Pen)
-    ensures { Plays pen.old pen.new (log_text kind text.now table.old) table.new }
+fn write_whole(kind: Kind, text: &[u8], table: &mut [u16], sheet: &mut Sheet)
+    ensures { Plays sheet.old sheet.new (log_text kind text.now table.old) table.new }
 {
     match schedule::check_text(text) {
-        Ok((o, place)) => write_played(kind, text, place, o, table, pen),
-        Err(BadLine(line)) => pen.put_text_refusal(line),
+        Ok((o, place)) => write_played(kind, text, place, o, table, sheet),
+        Err(BadLine(line)) => sheet.put_text_refusal(line),
     }
 }
 
 // The log of any text at the room's start, as far as the room reaches: how many bytes it has, if it fits.
-fn write_from_start(kind: Kind, text: &[u8], table: &mut [u16], room: &mut [u8]) -> Option<usize>
+fn write_from_start(kind: Kind, text: &[u8], table: &mut [u16], room: &mut [u8]) -> Pen
     ensures { into (Some 0, room.old) (log_text kind text.now table.old) ≡ ((result, room.new), table.new) }
 {
-    let mut pen = Pen { room, at: Some(0) };
-    write_whole(kind, text, table, &mut pen);
-    pen.at
+    let mut sheet = Sheet { room, at: Some(0) };
+    write_whole(kind, text, table, &mut sheet);
+    sheet.at
 }
 
 // Writes the log of a schedule's text into the room, and answers its length; a table or a room that is too small is refused. The table is

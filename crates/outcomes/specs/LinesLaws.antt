@@ -5,7 +5,7 @@ use Rattle.std.proofs.Common.{◌*◌, ◌^◌, sym, ◌∙◌, arith, sub-one}
 use Rattle.std.specs.Fmt.{decimal}
 use Rattle.std.proofs.lemmas.Fmt.{AppendsLastDigit, decimal_from_appends, length-decimal-le}
 use borrow.Author.Tests.{lt-ltb, le-ltb, eq-eqb, ne_eqb}
-use Rattle.loglines.specs.declared.Pen.{Pen}
+use Rattle.loglines.specs.declared.Sheet.{Sheet}
 use Rattle.loglines.specs.Ink.{Page, page, ink, Writes}
 use Rattle.loglines.specs.Laws.{ink_then}
 use Rattle.answers.specs.declared.Refusal.{Refusal}
@@ -69,18 +69,18 @@ decimal_appends = record {
 pub decimal_std : (n : ℕ) → n < 2 ^ 64 → decimal_of n ≡ decimal n
 decimal_std n h = decimal_from_appends decimal_in decimal_appends 20 n h (length-decimal-le 20 n (omega arith) (omega arith) h)
 
--- ---- a pen with some of the bytes left to write
+-- ---- a sheet with some of the bytes left to write
 
--- the pen q is p after all bytes, once it has written the rest
-pub record Writing (p q : Pen) (bytes rest : List ℕ) : Type 0 where
+-- the sheet q is p after all bytes, once the rest is written
+pub record Writing (p q : Sheet) (bytes rest : List ℕ) : Type 0 where
   pub same_room : q.room.ghost_name ≡ p.room.ghost_name
   pub inked : ink (page p) bytes ≡ ink (page q) rest
 
-pub writing_on : {p q r : Pen} {bytes rest next : List ℕ} → Writing p q bytes rest → r.room.ghost_name ≡ q.room.ghost_name
+pub writing_on : {p q r : Sheet} {bytes rest next : List ℕ} → Writing p q bytes rest → r.room.ghost_name ≡ q.room.ghost_name
     → ink (page q) rest ≡ ink (page r) next → Writing p r bytes next
 writing_on w s e = record { same_room = s ∙ w.same_room; inked = w.inked ∙ e }
 
-pub writing_ends : {p q : Pen} {bytes rest : List ℕ} → Writing p q bytes rest → ink (page q) rest ≡ page q → Writes p q bytes
+pub writing_ends : {p q : Sheet} {bytes rest : List ℕ} → Writing p q bytes rest → ink (page q) rest ≡ page q → Writes p q bytes
 writing_ends w e = record { same_room = w.same_room; inked = w.inked ∙ e }
 
 -- ---- the numbers of a key

@@ -47,7 +47,7 @@ ghost use Rattle.outcomes.specs.Lines.{
 
 use answers::{End, Refusal, Why};
 use entries::Schedule;
-use loglines::Pen;
+use loglines::Sheet;
 use std::marker::Model;
 use words::{Queue, Sizes};
 
@@ -312,49 +312,49 @@ fn number_in(tallies: &[u64], key: usize, j: usize) -> u16
     part_of(tallies[key + j / 4], j % 4)
 }
 
-fn put_decimal(pen: &mut Pen, n: u64)
-    ensures { Writes pen.old pen.new (decimal_of n) }
+fn put_decimal(sheet: &mut Sheet, n: u64)
+    ensures { Writes sheet.old sheet.new (decimal_of n) }
 {
     let mut digits = itoa::Buffer::new();
-    pen.put(digits.format(n).as_bytes());
+    sheet.put(digits.format(n).as_bytes());
 }
 
 // ` NODE` or ` empty`
 // kept: 0 is empty, as in answers::End, and one of the numbers of a key (specs: value_text).
-// kept: no Display of the lines, for the reason beside loglines::Pen.
-fn put_value(pen: &mut Pen, x: u16)
-    ensures { Writes pen.old pen.new (value_text x) }
+// kept: no Display of the lines, for the reason beside loglines::Sheet.
+fn put_value(sheet: &mut Sheet, x: u16)
+    ensures { Writes sheet.old sheet.new (value_text x) }
 {
     if x == 0 {
-        pen.put(b" empty");
+        sheet.put(b" empty");
     } else {
-        pen.put(b" ");
-        put_decimal(pen, u64::from(x));
+        sheet.put(b" ");
+        put_decimal(sheet, u64::from(x));
     }
 }
 
 // ` queue NUMBER`
-fn put_queue(pen: &mut Pen, q: u16)
-    ensures { Writes pen.old pen.new (queue_head q) }
+fn put_queue(sheet: &mut Sheet, q: u16)
+    ensures { Writes sheet.old sheet.new (queue_head q) }
 {
-    pen.put(b" queue ");
-    put_decimal(pen, u64::from(q));
+    sheet.put(b" queue ");
+    put_decimal(sheet, u64::from(q));
 }
 
 // What the dequeues returned, and then each queue with its nodes.
-fn put_numbers(pen: &mut Pen, tallies: &[u64], key: usize, queues: u16)
+fn put_numbers(sheet: &mut Sheet, tallies: &[u64], key: usize, queues: u16)
     requires { key + 4 ≤ length tallies.now }
-    ensures { Writes pen.old pen.new (numbers_text 16 tallies.now key 0 queues 0) }
+    ensures { Writes sheet.old sheet.new (numbers_text 16 tallies.now key 0 queues 0) }
 {
     let mut q: u16 = 0;
     for j in 0..16 {
         let x = number_in(tallies, key, j);
         // kept: the mark is a number, as said at MARK.
         if x != MARK {
-            put_value(pen, x);
+            put_value(sheet, x);
         } else if q < queues {
             q += 1;
-            put_queue(pen, q);
+            put_queue(sheet, q);
         } else {
             return;
         }
@@ -362,22 +362,22 @@ fn put_numbers(pen: &mut Pen, tallies: &[u64], key: usize, queues: u16)
 }
 
 // `COUNT other`, if there are any
-fn put_others(pen: &mut Pen, n: u64)
-    ensures { Writes pen.old pen.new (others_line n) }
+fn put_others(sheet: &mut Sheet, n: u64)
+    ensures { Writes sheet.old sheet.new (others_line n) }
 {
     if n != 0 {
-        put_decimal(pen, n);
-        pen.put(b" other\n");
+        put_decimal(sheet, n);
+        sheet.put(b" other\n");
     }
 }
 
 // `schedules COUNT`
-fn put_count(pen: &mut Pen, n: u64)
-    ensures { Writes pen.old pen.new (count_line n) }
+fn put_count(sheet: &mut Sheet, n: u64)
+    ensures { Writes sheet.old sheet.new (count_line n) }
 {
-    pen.put(b"schedules ");
-    put_decimal(pen, n);
-    pen.put(b"\n");
+    sheet.put(b"schedules ");
+    put_decimal(sheet, n);
+    sheet.put(b"\n");
 }
 
 // Tallies that have all their words.
@@ -414,32 +414,32 @@ impl Tallies<'_> {
     }
 
     // `COUNT returned A B .. queue 1 X Y .. queue 2 Z ..`
-    fn put_outcome(&self, pen: &mut Pen, i: usize, queues: u16)
+    fn put_outcome(&self, sheet: &mut Sheet, i: usize, queues: u16)
         requires { i < 1024 }
-        ensures { Writes pen.old pen.new (outcome_line self.now.words.now i queues) }
+        ensures { Writes sheet.old sheet.new (outcome_line self.now.words.now i queues) }
     {
         let at = 2 + 5 * i;
-        put_decimal(pen, self.words[at]);
-        pen.put(b" returned");
-        put_numbers(pen, self.words, at + 1, queues);
-        pen.put(b"\n");
+        put_decimal(sheet, self.words[at]);
+        sheet.put(b" returned");
+        put_numbers(sheet, self.words, at + 1, queues);
+        sheet.put(b"\n");
     }
 
-    fn put_outcomes(&self, pen: &mut Pen, queues: u16)
-        ensures { Writes pen.old pen.new (outcome_lines (known_in self.now.words.now) self.now.words.now 0 queues) }
+    fn put_outcomes(&self, sheet: &mut Sheet, queues: u16)
+        ensures { Writes sheet.old sheet.new (outcome_lines (known_in self.now.words.now) self.now.words.now 0 queues) }
     {
         let n = self.known();
         for i in 0..n {
-            self.put_outcome(pen, i, queues);
+            self.put_outcome(sheet, i, queues);
         }
     }
 
-    fn put_lines(&self, pen: &mut Pen, count: u64, queues: u16)
-        ensures { Writes pen.old pen.new (counted_text count self.now.words.now queues) }
+    fn put_lines(&self, sheet: &mut Sheet, count: u64, queues: u16)
+        ensures { Writes sheet.old sheet.new (counted_text count self.now.words.now queues) }
     {
-        put_count(pen, count);
-        self.put_outcomes(pen, queues);
-        put_others(pen, self.words[1]);
+        put_count(sheet, count);
+        self.put_outcomes(sheet, queues);
+        put_others(sheet, self.words[1]);
     }
 }
 
@@ -455,7 +455,7 @@ pub fn write_outcomes(
     requires { 5122 ≤ length tallies.now }
     ensures { put_lines room.old (counted_text count tallies.now queues) ≡ (result, room.new) }
 {
-    let mut pen = Pen { room, at: Some(0) };
-    Tallies { words: tallies }.put_lines(&mut pen, count, queues);
-    pen.at.ok_or(Refusal::Room)
+    let mut sheet = Sheet { room, at: Some(0) };
+    Tallies { words: tallies }.put_lines(&mut sheet, count, queues);
+    sheet.at.ok_or(Refusal::Room)
 }

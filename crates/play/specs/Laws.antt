@@ -103,6 +103,11 @@ module _ (line : End → List ℕ) where
   place_wrong x zero i text at t n vs r = into_none x t
   place_wrong x (suc k) i text at t n vs r = rw r (into_none x t)
 
+  pub place_start : (x : Page) (count : ℕ) (text : List ℕ) (at : ℕ) (t : List ℕ)
+      → into x (at_place line count 1 text at t) ≡ into x (at_place line (count - 0) (0 + 1) text at t)
+  place_start x count text at t =
+      let e : count ≡ count - 0 = omega arith in ap (λ (k : ℕ). into x (at_place line k 1 text at t)) e
+
   pub place_none : (x : Page) (k i : ℕ) (text : List ℕ) (at : ℕ) (t : List ℕ) → k ≤ 0
       → into x (at_place line k i text at t) ≡ (x, t)
   unfolding at_place

@@ -4,7 +4,7 @@ use Rattle.answers.specs.declared.End.{End}
 use Rattle.text.specs.declared.Event.{Event}
 use Rattle.text.specs.Answer.{Answer, gives, refuses}
 use Rattle.text.specs.Reading.{event_reading}
-use Rattle.loglines.specs.declared.Pen.{Pen}
+use Rattle.loglines.specs.declared.Sheet.{Sheet}
 use Rattle.loglines.specs.Ink.{Page, page, ink}
 use Rattle.play.specs.Play.{event_of, follow}
 
@@ -12,8 +12,8 @@ use Rattle.play.specs.Play.{event_of, follow}
 abbrev pub into : {A : Type 0} → Page → List ℕ × A → Page × A
 into x p = (ink x p.0, p.1)
 
--- the pen q is p after the lines of x, in the same room; a came of it
-pub record Plays {A : Type 0} (p q : Pen) (x : List ℕ × A) (a : A) : Type 0 where
+-- the sheet q is p after the lines of x, in the same room; a came of it
+pub record Plays {A : Type 0} (p q : Sheet) (x : List ℕ × A) (a : A) : Type 0 where
   pub same_room : q.room.ghost_name ≡ p.room.ghost_name
   pub played : into (page p) x ≡ (page q, a)
 

@@ -7,17 +7,17 @@ ghost use Rattle.play.specs.Play.{steps_of, event_of};
 ghost use Rattle.play.specs.Parts.{Plays, at_place};
 
 use answers::{Refusal, Why};
-use loglines::Pen;
+use loglines::Sheet;
 use text::Event;
 
-// kept: table, pen and bound are lent apart, and play_events promises of each; a struct would be made for its two helpers alone.
+// kept: table, sheet and bound are lent apart, and play_events promises of each; a struct would be made for its two helpers alone.
 fn play_steps(
     table: &mut [u16],
-    pen: &mut Pen,
+    sheet: &mut Sheet,
     count: u16,
     bound_nodes: Option<u16>,
 ) -> Result<(), Refusal>
-    ensures { Plays pen.old pen.new (steps_of (line_of bound_nodes) count table.old) (answer_says result, table.new) }
+    ensures { Plays sheet.old sheet.new (steps_of (line_of bound_nodes) count table.old) (answer_says result, table.new) }
 {
     let mut left = count;
     // kept: a run takes several steps of the count, so no `for` goes over it
@@ -25,7 +25,7 @@ fn play_steps(
         let ran = steps::run(table, left)?;
         match ran.why {
             Why::Ended(e) => {
-                pen.put_end(e, bound_nodes);
+                sheet.put_end(e, bound_nodes);
                 left -= ran.steps;
             }
             Why::Spent => return Ok(()),
@@ -38,16 +38,16 @@ fn play_steps(
 
 fn play_event(
     table: &mut [u16],
-    pen: &mut Pen,
+    sheet: &mut Sheet,
     e: Event,
     bound_nodes: Option<u16>,
 ) -> Result<(), Refusal>
-    ensures { Plays pen.old pen.new (event_of (line_of bound_nodes) e table.old) (answer_says result, table.new) }
+    ensures { Plays sheet.old sheet.new (event_of (line_of bound_nodes) e table.old) (answer_says result, table.new) }
 {
     match e {
         Event::Enqueue(l, q, n) => begins::begin_enqueue(table, l, q, n),
         Event::Dequeue(l, q) => begins::begin_dequeue(table, l, q),
-        Event::Steps(count) => play_steps(table, pen, count, bound_nodes),
+        Event::Steps(count) => play_steps(table, sheet, count, bound_nodes),
     }
 }
 
@@ -58,10 +58,10 @@ pub fn play_events(
     place: usize,
     count: u16,
     table: &mut [u16],
-    pen: &mut Pen,
+    sheet: &mut Sheet,
     bound_nodes: Option<u16>,
 )
-    ensures { Plays pen.old pen.new (at_place (line_of bound_nodes) count 1 text.now place table.old) table.new }
+    ensures { Plays sheet.old sheet.new (at_place (line_of bound_nodes) count 1 text.now place table.old) table.new }
 {
     let mut at = place;
     for i in 0..count {
@@ -69,8 +69,8 @@ pub fn play_events(
             return;
         };
         at = after;
-        if let Err(r) = play_event(table, pen, e, bound_nodes) {
-            pen.put_refusal(i + 1, r.into());
+        if let Err(r) = play_event(table, sheet, e, bound_nodes) {
+            sheet.put_refusal(i + 1, r.into());
             return;
         }
     }

@@ -11,7 +11,7 @@ use Rattle.search.specs.declared.Listed.{Listed}
 use Rattle.search.specs.declared.Listing.{Listing}
 use Rattle.search.specs.declared.Spot.{Spot}
 use Rattle.search.specs.declared.Stop.{Stop}
-use Rattle.search.specs.declared.Stop.TheVariants.{Going, Cut, Full}
+use Rattle.search.specs.declared.Stop.TheVariants.{Going, Cut, Full, Other}
 use Rattle.search.specs.declared.Asked.{Asked}
 use Rattle.search.specs.declared.What.{What}
 use Rattle.search.specs.declared.What.TheVariants.{Count, Tally, Measure, Write}
@@ -40,11 +40,13 @@ abbrev pub is_going : Stop → Bool
 is_going Going = true
 is_going Cut = false
 is_going Full = false
+is_going (Other n) = false
 
 abbrev pub is_full : Stop → Bool
 is_full Going = false
 is_full Cut = false
 is_full Full = true
+is_full (Other n) = false
 
 abbrev pub shut : Stop → Listed → Listed
 shut x l = record { count = l.count; at = l.at; stop = x }

@@ -49,12 +49,14 @@ pub struct Asked {
     pub what: What,
 }
 
-// How a listing stops: not yet; as many are listed as are wanted and one more exists; the next has no room.
+// How a listing stops: not yet; as many are listed as are wanted and one more exists; the next has no room; for a reason of the caller's
+// own, by its number, which stays as it is and lists nothing.
 #[derive(Clone, Copy, PartialEq, Eq, Debug)]
 pub enum Stop {
     Going,
     Cut,
     Full,
+    Other(u64),
 }
 
 // The schedules listed, their bytes, and how the listing stops.

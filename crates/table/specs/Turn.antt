@@ -65,10 +65,10 @@ by_no_free s t u n e next = by (has s (word.Next n)) e
     by false h = let z : t ≡ u = ap (λ p. p.1) h in cc
 
 -- and one whose first word is there: then its second is too
-pub by_free : (s : Sizes) (t u v : List ℕ) (n : Node) (x : Unit {0}) (y : Option Unit) → stored s t (word.Next n) 0 ≡ (Some x, u)
+pub by_free_on : (s : Sizes) (t u v : List ℕ) (n : Node) (x : Unit {0}) (y : Option Unit) → stored s t (word.Next n) 0 ≡ (Some x, u)
     → stored s u (word.Use n) 0 ≡ (y, v) → (next : After) → turned s t (frees n next) ≡ (option_map (λ _. next) y, v)
 unfolding stored turned has
-by_free s t u v n x y e g next =
+by_free_on s t u v n x y e g next =
     rw (sym (ap (λ p. p.0) g)) (rw (sym (ap (λ p. p.1) g)) (by (has s (word.Next n)) e))
   where
     put : List ℕ
@@ -81,6 +81,27 @@ by_free s t u v n x y e g next =
         → cond {A = Option After × List ℕ} b (Some next, wr s put (word.Use n) 0) (None, t) ≡ (option_map (λ _. next) (after b).0, (after b).1)
     by true h = let z : put ≡ u = ap (λ p. p.1) h in rw z refl
     by false h = let z : None ≡ Some x = ap (λ p. p.0) h in cc
+
+-- a row that frees, whether its words are there or not: its second is where its first is
+pub by_free : (s : Sizes) (t u v : List ℕ) (n : Node) (x y : Option Unit) → stored s t (word.Next n) 0 ≡ (x, u)
+    → stored s u (word.Use n) 0 ≡ (y, v) → (next : After) → turned s t (frees n next) ≡ (option_map (λ _. next) x, v)
+unfolding stored turned has
+by_free s t u v n x y e g next =
+    rw (sym (ap (λ p. p.0) e)) (rw (sym (ap (λ p. p.1) g)) (rw (sym (ap (λ p. p.1) e)) (by (has s (word.Next n)))))
+  where
+    put : List ℕ
+    put = wr s t (word.Next n) 0
+
+    first : Bool → Option Unit × List ℕ
+    first b = cond b (Some tt, put) (None, t)
+
+    second : Bool → List ℕ → Option Unit × List ℕ
+    second b w = cond b (Some tt, wr s w (word.Use n) 0) (None, w)
+
+    by : (b : Bool) → cond {A = Option After × List ℕ} b (Some next, wr s put (word.Use n) 0) (None, t)
+        ≡ (option_map (λ _. next) (first b).0, (second b (first b).1).1)
+    by true = refl
+    by false = refl
 
 pub by_nothing : (s : Sizes) (t : List ℕ) → turned s t nothing ≡ (None, t)
 unfolding turned

@@ -15,7 +15,7 @@ ghost use Rattle.trying.specs.Trying.{
 ghost use Rattle.trying.specs.Bounds.{digit_on, bound_in};
 
 use answers::Refusal;
-use loglines::Pen;
+use loglines::Sheet;
 use std::env::{Env, FillError};
 use tasks::TaskError;
 use text::Opening;
@@ -102,9 +102,9 @@ fn whole(written: Option<usize>) -> Result<Answer, NoRoom>
 fn tell_wrong(line: usize, room: &mut [u8]) -> Result<Answer, NoRoom>
     ensures { laid (text_line line) room.old ≡ (answer_says result, room.new) }
 {
-    let mut pen = Pen { room, at: Some(0) };
-    pen.put_text_refusal(line);
-    whole(pen.at)
+    let mut sheet = Sheet { room, at: Some(0) };
+    sheet.put_text_refusal(line);
+    whole(sheet.at)
 }
 
 // `R 0 number`, but for the room that is too small
@@ -115,9 +115,9 @@ fn tell_refused(why: Refusal, room: &mut [u8]) -> Result<Answer, NoRoom>
     if let Refusal::Room = why {
         return Err(NoRoom);
     }
-    let mut pen = Pen { room, at: Some(0) };
-    pen.put_refusal(0, why.into());
-    whole(pen.at)
+    let mut sheet = Sheet { room, at: Some(0) };
+    sheet.put_refusal(0, why.into());
+    whole(sheet.at)
 }
 
 fn list_schedules(o: Opening, ops: &[u16], bound: u32, room: &mut [u8]) -> Result<Answer, NoRoom>

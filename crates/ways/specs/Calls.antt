@@ -122,11 +122,11 @@ unrefused : (x : Result Unit Refusal) → is_ok x ≡ eqb (refusal_number x) 0
 unrefused (Ok x) = refl
 unrefused (Err r) = numbered r
 
-may_enqueue_is : (o : Op) (s : Sizes) (t : List ℕ) → o.op ≡ 1 → measured t ≡ Some s
+pub may_enqueue_is : (o : Op) (s : Sizes) (t : List ℕ) → o.op ≡ 1 → measured t ≡ Some s
     → eqb (enqueue_why s t o.level o.queue o.node) 0 ≡ (begun o t).0
 may_enqueue_is o s t k m = sym (may_1 o t k ∙ enqueue_accepts s t o.level o.queue o.node m)
 
-may_dequeue_is : (o : Op) (s : Sizes) (t : List ℕ) → o.op ≡ 2 → o.node.0 ≡ 0 → measured t ≡ Some s
+pub may_dequeue_is : (o : Op) (s : Sizes) (t : List ℕ) → o.op ≡ 2 → o.node.0 ≡ 0 → measured t ≡ Some s
     → eqb (dequeue_why s t o.level o.queue) 0 ≡ (begun o t).0
 may_dequeue_is o s t k z m = sym (may_2 o t k z ∙ dequeue_accepts s t o.level o.queue m)
 

@@ -52,7 +52,7 @@ module _ (s : Sizes) where
           why r (inl e) = rw e
           why r (inr e) = rw e
 
-  end_ran : (left : ℕ) (t u : List ℕ) (x : Said Run) → TableOf s t → whole_from s left 0 t ≡ (x, u) → end_in left 0 t ≡ tail_of x
+  pub end_ran : (left : ℕ) (t u : List ℕ) (x : Said Run) → TableOf s t → whole_from s left 0 t ≡ (x, u) → end_in left 0 t ≡ tail_of x
   end_ran left t u x m e = end_whole left 0 t m ∙ ap (λ (y : Said Run × List ℕ). tail_of y.0) e
 
   module _ (left : ℕ) (t u : List ℕ) (r : Ran) (m : TableOf s t) (ran : whole_from s left 0 t ≡ (says (ran_says r), u)) where

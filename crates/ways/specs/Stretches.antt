@@ -89,7 +89,7 @@ module _ (o : Op) (s : Sizes) where
           why false = refl
 
   -- by what a run leaves
-  stretch_ran : (left : ℕ) (t u : List ℕ) (b : Bool) (x : Said Run) → measured t ≡ Some s → b ≡ (begun o t).0 → b ≡ false
+  pub stretch_ran : (left : ℕ) (t u : List ℕ) (b : Bool) (x : Said Run) → measured t ≡ Some s → b ≡ (begun o t).0 → b ≡ false
       → run_from s left 0 t ≡ (x, u) → stretched o left t ≡ ran_stretch o left (x, u)
   stretch_ran left t u b x m e h k =
       run_stretch left 0 t m (sym e ∙ h)
@@ -134,7 +134,7 @@ module _ (o : Op) (s : Sizes) (t u : List ℕ) (m : measured t ≡ Some s) where
   gone_step (suc left) x z e = rw (stepped_is s t m u x e, sub-one) refl
 
   -- it is accepted still
-  gone_going : (left : ℕ) → (begun o t).0 ≡ true → (left ≡ 0 → ⊥) → step_sized s t ≡ (says going_on, u)
+  pub gone_going : (left : ℕ) → (begun o t).0 ≡ true → (left ≡ 0 → ⊥) → step_sized s t ≡ (says going_on, u)
       → (gone_on o left t ≡ (left - 1, u)) × (measured u ≡ Some s) × ((begun o u).0 ≡ true)
   gone_going left h z e =
       let kept = stepped_kept s t u (says going_on) m e in

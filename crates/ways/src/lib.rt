@@ -146,11 +146,14 @@ pub fn steps_left(t: &mut [u16], s: Sizes, left: u16) -> Option<u16>
 }
 
 // The words of one table to another of the same length.
+// kept: word by word, as words::copy_part.
 pub fn copy_words(from: &[u16], to: &mut [u16])
     requires { length to.old ≡ length from.now }
     ensures { to.new ≡ from.now }
 {
-    to.copy_from_slice(from);
+    for i in 0..from.len() {
+        to[i] = from[i];
+    }
 }
 
 // The last operation, which is accepted, begins on a copy of the table: the steps that follow it, or None where they do not end.

@@ -325,11 +325,14 @@ pub fn add_level(s: Sizes) -> Sizes
 }
 
 // Copies n words, those from place at on, to the given place of other words.
+// kept: word by word, since copy_from_slice is a memmove, which no archive for C had asked for from outside.
 fn copy_part(from: &[u16], at: usize, n: usize, to: &mut [u16], place: usize)
     requires { (at + n ≤ length from.now) × (place + n ≤ length to.old) }
     ensures { to.new ≡ paste to.old place (drop at from.now) n }
 {
-    to[place..place + n].copy_from_slice(&from[at..at + n]);
+    for i in 0..n {
+        to[place + i] = from[at + i];
+    }
 }
 
 // Copies a table with one more idle level on top.

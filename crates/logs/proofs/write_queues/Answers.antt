@@ -1,8 +1,8 @@
-use Rattle.logs.specs.Laws.{queues_none, queues_more}
+use Rattle.logs.specs.Laws.{writes_queues, writes_queue}
 use Rattle.logs.proofs.write_queues.Goals as goal
 
 pub loop-i-init : goal.loop-i-init
-loop-i-init c = queues_none _ _
+loop-i-init c = writes_queues _ _
 
 pub loop-i-preserved : goal.loop-i-preserved
-loop-i-preserved c = queues_more _ _ c.loop-i.invariant c.write_queue.ensures
+loop-i-preserved c = writes_queue _ _ c.loop-i.invariant c.write_queue.ensures

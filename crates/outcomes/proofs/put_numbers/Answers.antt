@@ -12,11 +12,11 @@ loop-j-preserved c =
     let j = c.loop-j.j in
     elim c.if-x.branch [
       | then-x w ↦
-          rw (w.pen-is, w.q-is)
+          rw (w.sheet-is, w.q-is)
           (writing_on c.loop-j.invariant w.put_value.ensures.same_room
           (numbers_value _ _ _ j _ _ c.loop-j.q c.loop-j-test.true c.number_in-x.ensures w.if-x.true w.put_value.ensures.inked))
       | else-x+then-q-queues w ↦
-          rw (w.pen-is, w.q-is)
+          rw (w.sheet-is, w.q-is)
           (writing_on c.loop-j.invariant w.put_queue.ensures.same_room
           (numbers_queue _ _ _ j _ _ c.loop-j.q c.loop-j-test.true c.number_in-x.ensures w.if-x.false w.if-q-queues.true
           w.put_queue.ensures.inked))

@@ -5,7 +5,7 @@ use Rattle.table.specs.Table.{row}
 use Rattle.table.specs.Points as point
 use Rattle.table.specs.Points.{point_of, points}
 use Rattle.table.specs.Laws.{point_is, none_of}
-use Rattle.table.specs.Turn.{by_load, by_store, by_no_free, by_free, by_nothing}
+use Rattle.table.specs.Turn.{by_load, by_store, by_no_free, by_free_on, by_nothing}
 use Rattle.table.proofs.turn.Goals as goal
 
 -- E1, its word is not there
@@ -659,7 +659,7 @@ unfolding row
 returns-in_err-store-in-37-2 c =
     simp (
       point_is point.D7 _ c.in-37.is,
-      by_free _ _ _ _ _ _ _ c.in_ok-store-in-37.ensures c.in_err-store-in-37-2.ensures,
+      by_free_on _ _ _ _ _ _ _ c.in_ok-store-in-37.ensures c.in_err-store-in-37-2.ensures,
       c.from_residual-in_err-store-in-37-2.ensures,
     )
 
@@ -667,7 +667,7 @@ returns-in_err-store-in-37-2 c =
 pub returns-in_ok-store-in-37-2 : goal.returns-in_ok-store-in-37-2
 unfolding row
 returns-in_ok-store-in-37-2 c =
-    simp (point_is point.D7 _ c.in-37.is, by_free _ _ _ _ _ _ _ c.in_ok-store-in-37.ensures c.in_ok-store-in-37-2.ensures)
+    simp (point_is point.D7 _ c.in-37.is, by_free_on _ _ _ _ _ _ _ c.in_ok-store-in-37.ensures c.in_ok-store-in-37-2.ensures)
 
 -- no point
 pub returns-in_default : goal.returns-in_default

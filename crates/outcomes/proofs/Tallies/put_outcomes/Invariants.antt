@@ -4,4 +4,4 @@ use Rattle.outcomes.specs.LinesLaws.{Writing}
 use Rattle.outcomes.proofs.Tallies.put_outcomes.Given as goal
 
 abbrev pub invariant-loop-i : goal.invariant-loop-i
-invariant-loop-i l = Writing l.initial.pen l.pen (outcome_lines l.n l.self.words.now 0 l.queues) (outcome_lines (l.n - l.i) l.self.words.now l.i l.queues)
+invariant-loop-i l = Writing l.initial.sheet l.sheet (outcome_lines l.n l.self.words.now 0 l.queues) (outcome_lines (l.n - l.i) l.self.words.now l.i l.queues)

@@ -1,6 +1,6 @@
 use Rattle.std.proofs.Common.{refl, lt-ltb, le-ltb}
 use Rattle.loglines.specs.Ink.{ink_one, ink}
-use Rattle.loglines.proofs.Pen.put_byte.Goals as goal
+use Rattle.loglines.proofs.Sheet.put_byte.Goals as goal
 
 pub returns-then-at-self : goal.returns-then-at-self
 unfolding ink_one ink

@@ -1,6 +1,6 @@
 use Rattle.loglines.specs.Lines.{unquiet_line}
 use Rattle.loglines.specs.Laws.{writes_then}
-use Rattle.loglines.proofs.Pen.put_unquiet.Goals as goal
+use Rattle.loglines.proofs.Sheet.put_unquiet.Goals as goal
 
 pub returns : goal.returns
 unfolding unquiet_line

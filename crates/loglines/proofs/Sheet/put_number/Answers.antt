@@ -4,7 +4,7 @@ use Rattle.heads.specs.Put.{Put}
 use Rattle.decimals.specs.Decimals.{digits_of}
 use Rattle.decimals.specs.Laws.{length_digits, width_top}
 use Rattle.loglines.specs.Laws.{digits_put}
-use Rattle.loglines.proofs.Pen.put_number.Goals as goal
+use Rattle.loglines.proofs.Sheet.put_number.Goals as goal
 
 few : (n : ℕ) → length (digits_of n) ≤ 5
 few n = omega (arith, length_digits n, width_top n)

@@ -2,8 +2,8 @@ use Rattle.std.proofs.Common.{eq-eqb, ne_eqb}
 use Rattle.loglines.specs.Lines.{head_of, operation_text}
 use Rattle.loglines.specs.Ink.{Writes}
 use Rattle.loglines.specs.Laws.{writes_then}
-use Rattle.loglines.proofs.Pen.put_operation.Goals as goal
-use Rattle.loglines.proofs.Pen.put_operation.Goals.{then-e-eq1, else-e-eq1}
+use Rattle.loglines.proofs.Sheet.put_operation.Goals as goal
+use Rattle.loglines.proofs.Sheet.put_operation.Goals.{then-e-eq1, else-e-eq1}
 
 pub returns : goal.returns
 unfolding operation_text

@@ -1,6 +1,6 @@
 use Rattle.loglines.specs.Lines.{refusal_line}
 use Rattle.loglines.specs.Laws.{writes_then}
-use Rattle.loglines.proofs.Pen.put_refusal.Goals as goal
+use Rattle.loglines.proofs.Sheet.put_refusal.Goals as goal
 
 pub returns : goal.returns
 unfolding refusal_line

@@ -1,5 +1,5 @@
 use Rattle.loglines.specs.Laws.{writes_none, writes_more}
-use Rattle.loglines.proofs.Pen.put.Goals as goal
+use Rattle.loglines.proofs.Sheet.put.Goals as goal
 
 pub loop-b-init : goal.loop-b-init
 loop-b-init c = writes_none _

@@ -5,7 +5,7 @@ use Rattle.decimals.specs.Decimals.{field_of}
 use Rattle.text.specs.Text.{lf, space}
 use Rattle.loglines.specs.Lines.{operation_text, end_line, bound_line, line_of}
 use Rattle.loglines.specs.Laws.{writes_then}
-use Rattle.loglines.proofs.Pen.put_end.Goals as goal
+use Rattle.loglines.proofs.Sheet.put_end.Goals as goal
 
 pub returns-in-Some : goal.returns-in-Some
 unfolding bound_line

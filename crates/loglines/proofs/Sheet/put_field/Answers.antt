@@ -1,6 +1,6 @@
 use Rattle.decimals.specs.Decimals.{field_of}
 use Rattle.loglines.specs.Laws.{writes_then}
-use Rattle.loglines.proofs.Pen.put_field.Goals as goal
+use Rattle.loglines.proofs.Sheet.put_field.Goals as goal
 
 pub returns : goal.returns
 unfolding field_of

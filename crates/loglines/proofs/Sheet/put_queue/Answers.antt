@@ -1,6 +1,6 @@
 use Rattle.loglines.specs.Lines.{queue_line}
 use Rattle.loglines.specs.Laws.{writes_then}
-use Rattle.loglines.proofs.Pen.put_queue.Goals as goal
+use Rattle.loglines.proofs.Sheet.put_queue.Goals as goal
 
 pub returns : goal.returns
 unfolding queue_line
