@@ -1,7 +1,7 @@
 use borrow.Author.Rules.{rules}
 use Rattle.std.specs.Prelude.{refl}
-use Rattle.std.proofs.Common.{arith, length-set}
-use Rattle.ways.specs.Copies.{copy_more, copy_ends}
+use Rattle.std.proofs.Common.{length-set}
+use Rattle.ways.specs.Copies.{copy_more}
 use Rattle.ways.proofs.copy_words.Goals as goal
 
 pub loop-i-init : goal.loop-i-init
